@@ -11,7 +11,7 @@ use Rattle.steps.proofs.Compare.{inner}
 use Rattle.steps.proofs.Rows.{_≼_, stop, more, next-2, row-newest, row-older}
 
 -- equality of rows by the test
-alike-true : (r s : Row) → alike r s ≡ true → r ≡ s
+pub alike-true : (r s : Row) → alike r s ≡ true → r ≡ s
 alike-true r s e =
     let h = both-true (eqb (r .var) (s .var) && eqb (r .then-part) (s .then-part)) (eqb (r .else-part) (s .else-part)) e in
     let g = both-true (eqb (r .var) (s .var)) (eqb (r .then-part) (s .then-part)) (h .0) in
@@ -21,7 +21,7 @@ alike-true r s e =
       else-part = eqb-true (r .else-part) (s .else-part) (h .1) i;
     }
 
-alike-refl : (r : Row) → alike r r ≡ true
+pub alike-refl : (r : Row) → alike r r ≡ true
 alike-refl r = rw (eq-eqb (r .var) (r .var) refl, eq-eqb (r .then-part) (r .then-part) refl, eq-eqb (r .else-part) (r .else-part) refl)
 
 -- a found row stays found
@@ -36,6 +36,15 @@ find-keeps (more {S} {r = s} q) r e = find-older S s r (find-keeps q r e)
 pub find-newest : (R : Rows) (r : Row) → find R r ≡ 0 → find (R ▹ r) r ≡ next R
 unfolding find
 find-newest R r e = rw (e, find, alike-refl r)
+
+-- a row that is not alike changes nothing
+pub find-other : (R : Rows) (s r : Row) → alike s r ≡ false → find (R ▹ s) r ≡ find R r
+unfolding find
+find-other R s r e = go (find R r) refl
+  where
+    go : (n : ℕ) → find R r ≡ n → find (R ▹ s) r ≡ find R r
+    go zero q = rw (q, find, e)
+    go (suc n) q = rw (q, find)
 
 -- what is found is a row in use, and is alike
 pub record Found (N : ℕ) (R : Rows) (r : Row) (k : ℕ) : Type 0 where

@@ -83,7 +83,7 @@ module _ (N : ℕ) where
         again = λ S h. rw (o .again S (≼-trans (b .keeps) h)) (b .again S h);
       }
 
-  make-0 : (v e : ℕ) (S : Rows) → make v 0 e S ≡ answer e S
+  pub make-0 : (v e : ℕ) (S : Rows) → make v 0 e S ≡ answer e S
   unfolding make
   make-0 v e S = refl
 

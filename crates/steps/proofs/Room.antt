@@ -5,7 +5,7 @@ use mathlib.Core.Bool.{Bool, true, false}
 use native.Mathlib.Omega.{arith}
 use lib.Dec.{leb}
 use borrow.Author.Tests.{leb-true, leb-false, le-leb, lt-leb, ne-eqb}
-use Rattle.steps.specs.Room.{Made, made, full, within}
+use Rattle.steps.specs.Room.{Ending, made, full, within}
 use Rattle.steps.specs.Rows.{row-of, Rows, _▹_, count, next, find}
 use Rattle.steps.specs.Steps.{Answer, Steps, answer, _>>=_, make}
 use Rattle.steps.proofs.Rows.{_≼_, count-grows}
@@ -38,7 +38,7 @@ within-more room room′ a x S h e = go (fit room a)
     go (over g q) = cc
 
 -- the outcome of m, then f: a full table stays full
-abbrev pub then-within : ℕ → Made → (ℕ → Steps) → Made
+abbrev pub then-within : ℕ → Ending → (ℕ → Steps) → Ending
 then-within room (made x S) f = within room (f x S)
 then-within room full f = full
 
@@ -53,3 +53,11 @@ within-bind room m f R k = go (fit room (m R))
 pub make-full : (room v t e : ℕ) (R : Rows) → count R ≡ room → (t ≡ 0 → ⊥) → find R (row-of v t e) ≡ 0 → within room (make v t e R) ≡ full
 unfolding make count
 make-full room v t e R h t0 f = rw (ne-eqb t 0 t0, f, make) (within-full room (answer (next R) (R ▹ row-of v t e)) (omega arith))
+
+-- what was made is what the steps answer
+pub within-tells : (room : ℕ) (a : Answer) (x : ℕ) (S : Rows) → within room a ≡ made x S → a ≡ answer x S
+within-tells room a x S e = go (fit room a)
+  where
+    go : Fit room a → a ≡ answer x S
+    go (fits h q) = let z : made (a .num) (a .rows) ≡ made x S = sym q ∙ e in let n : a .num ≡ x = cc in let m : a .rows ≡ S = cc in λ i. record { num = n i; rows = m i }
+    go (over h q) = absurd (let z : full ≡ made x S = sym q ∙ e in let y : _≡_ {A = ℕ} 0 1 = cc in omega arith)

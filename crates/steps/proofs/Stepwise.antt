@@ -5,7 +5,7 @@ use mathlib.Core.Bool.{Bool, true, false, _||_}
 use native.Mathlib.Omega.{arith}
 use lib.Dec.{eqb, ltb}
 use borrow.Author.Tests.{eqb-true, eqb-false}
-use Rattle.steps.specs.Room.{Made, made, full, within}
+use Rattle.steps.specs.Room.{Ending, made, full, within}
 use Rattle.steps.specs.Rows.{Row, row-of, Rows, _▹_, count, next, find, row}
 use Rattle.steps.specs.Steps.{Steps, answer, _>>=_, if_then_else_, append, make, sums, sum, products, product, normals}
 use Rattle.steps.proofs.Keeps.{Keeps, keeps-make, keeps-sums, keeps-products, keeps-normals, keeps-bind}
@@ -14,10 +14,10 @@ use Rattle.steps.proofs.Rows.{count-grows}
 
 module _ (room : ℕ) where
   abbrev pub Limited : Type 0
-  Limited = Rows → Made
+  Limited = Rows → Ending
 
   -- full stops all
-  abbrev then-do : Made → (ℕ → Limited) → Made
+  abbrev then-do : Ending → (ℕ → Limited) → Ending
   then-do (made x S) f = f x S
   then-do full f = full
 

@@ -1,5 +1,5 @@
 -- The rows that three slices hold.
-use Prim.Native.Nat.{ℕ, zero, suc, _+_, _<_}
+use Prim.Native.Nat.{ℕ, zero, suc, _+_, _-_, _<_, _≤_}
 use mathlib.Core.Path.{_≡_, refl, sym, _∙_, ap}
 use mathlib.Core.Bool.{Bool, true, false}
 use mathlib.Core.List.{List}
@@ -10,6 +10,7 @@ use lib.Seq.{getD-set-same, getD-set-other}
 use borrow.Author.Tests.{eqb-true, eqb-false, eq-eqb, ne-eqb}
 use Rattle.steps.specs.Rows.{row-of, Rows, _▹_, count, next, row}
 use Rattle.steps.specs.Table.{Slices, slices, row-at, rows-of}
+use Rattle.steps.proofs.Rows.{_≼_, stop, more}
 
 module _ (s : Slices) where
   pub rows-of-count : (c : ℕ) → count (rows-of s c) ≡ c
@@ -57,3 +58,24 @@ rows-of-push vs ts es c v t e hv ht he =
         getD-set-other es c k e 0 (λ q. omega arith),
       )),
     )
+
+-- slices that hold the same n rows hold the same first c of them
+pub rows-of-less : (c n : ℕ) (s s′ : Slices) → c ≤ n → rows-of s n ≡ rows-of s′ n → rows-of s c ≡ rows-of s′ c
+rows-of-less c n s s′ h q = rows-of-agree c s s′ (λ k l. rows-of-tells n s s′ q k (omega arith))
+
+-- the first rows are a beginning of all
+pub rows-of-part : (s : Slices) (i c : ℕ) → i ≤ c → rows-of s i ≼ rows-of s c
+unfolding rows-of
+rows-of-part s i zero h = rw (z) stop
+  where
+    z : i ≡ zero
+    z = omega arith
+rows-of-part s i (suc c) h = go (eqb i (suc c)) refl (rows-of-part s i c)
+  where
+    go : (b : Bool) → eqb i (suc c) ≡ b → (i ≤ c → rows-of s i ≼ rows-of s c) → rows-of s i ≼ rows-of s (suc c)
+    go true e ih = rw (eqb-true i (suc c) e) stop
+    go false e ih = more (ih (let q = eqb-false i (suc c) e in omega arith))
+
+-- the row of a number in use that is no constant
+pub rows-of-number : (N : ℕ) (s : Slices) (c k : ℕ) → 2 ≤ k → k < c + 2 → row N (rows-of s c) k ≡ row-at s (k - 2)
+rows-of-number N s c k h u = let q : (k - 2) + 2 ≡ k = omega arith in ap (row N (rows-of s c)) (sym q) ∙ rows-of-row s N c (k - 2) (omega arith)

@@ -1,0 +1,5 @@
+pub mod Buckets
+pub mod Links
+pub mod Walks
+pub mod Takes
+pub mod Enters

@@ -1,0 +1,4 @@
+pub mod Lent
+pub mod Index
+pub mod Memory
+pub mod Inner

@@ -1,0 +1,69 @@
+-- Remembered results, in the words behind the index: a word is 0, or holds an operation, its two operands and its result.
+-- Assumes nothing: these are definitions.
+use Prim.Native.Nat.{ℕ, zero, suc, _+_, _*_, _-_, _/_, _%_, _<_, _≤_}
+use mathlib.Core.Path.{_≡_}
+use mathlib.Core.Bool.{Bool, true, false, cond, _&&_}
+use mathlib.Core.List.{List}
+use lib.ListN.{length, getD, set, drop}
+use lib.Dec.{eqb, leb, ltb}
+use Rattle.steps.specs.Rows.{Rows, next}
+use Rattle.steps.specs.Steps.{Steps, answer, sum, product, normal}
+use Rattle.steps.specs.Table.{Slices, rows-of}
+use Rattle.steps.specs.Sound.{Sound}
+use Rattle.table.specs.Lent.{room, Lent}
+use Rattle.table.specs.Index.{index-words, Indexed}
+
+-- how many words remember results, of L - h that are there: as many as a table of R rows profits from
+unfoldable pub memory-size : ℕ → ℕ → ℕ
+memory-size R free =
+    cond (ltb 1024 R && leb 16384 free) 16384
+    (cond (ltb 64 R && leb 2048 free) 2048
+    (cond (leb 128 free) 128 0))
+
+-- where the remembered results end, in a working slice of L words
+unfoldable pub reach : ℕ → ℕ → ℕ
+reach R L = index-words R L + memory-size R (L - index-words R L)
+
+-- the operations: 1 is the sum, 2 the product, 3 the normal form
+unfoldable pub steps-of : ℕ → ℕ → ℕ → ℕ → Steps
+steps-of N op f g = cond (eqb op 1) (sum N f g) (cond (eqb op 2) (product N f g) (normal N f g))
+
+-- the key of an operation on f and g; no operation is 0, so that no key is that of a zero
+abbrev pub key-of : ℕ → ℕ → ℕ → ℕ
+key-of op f g = (op * 65536 + f) * 65536 + g
+
+-- the steps of op on f and g append nothing to the rows and answer k
+pub record Remembered (N : ℕ) (R : Rows) (op f g k : ℕ) : Type 0 where
+  pub left : f < next R
+  pub right : g < next R
+  pub system : op ≡ 3 → g ≡ 0 → ⊥
+  pub is : steps-of N op f g R ≡ answer k R
+
+-- each word of the memory that has a key has its result
+pub record Words (N from to : ℕ) (R : Rows) (work : List ℕ) : Type 0 where
+  pub each : (i op f g : ℕ) → from ≤ i → i < to → 0 < op → op < 4 → f < 65536 → g < 65536 → getD work i 0 / 65536 ≡ key-of op f g
+      → Remembered N R op f g (getD work i 0 % 65536)
+
+-- WHAT THE INNER FUNCTIONS ASK AND KEEP: a lent, sound table of c rows in use, and a working slice that remembers nothing but what is so
+pub record Live (N c : ℕ) (s : Slices) (work : List ℕ) : Type 0 where
+  pub sound : Sound N (rows-of s c)
+  pub indexed : Indexed c s work
+  pub words : Words N (index-words (room s) (length work)) (reach (room s) (length work)) (rows-of s c) work
+
+-- a word with the key stands in the memory, and has the result k
+pub record Stands (from to : ℕ) (work : List ℕ) (key k : ℕ) : Type 0 where
+  pub at : ℕ
+  pub after : from ≤ at
+  pub before : at < to
+  pub has-key : getD work at 0 / 65536 ≡ key
+  pub has-result : getD work at 0 % 65536 ≡ k
+
+-- one word of the memory was written, or none where there is no memory
+pub data Written (from to : ℕ) (work work′ : List ℕ) (w : ℕ) : Type 0 where
+  nothing : work′ ≡ work → Written from to work work′ w
+  word : (at : ℕ) → from ≤ at → at < to → work′ ≡ set work at w → Written from to work work′ w
+
+-- nothing but the index and the memory has changed, in a table of R rows
+pub record Behind (R : ℕ) (work work′ : List ℕ) : Type 0 where
+  pub same-length : length work′ ≡ length work
+  pub rest : drop (reach R (length work)) work′ ≡ drop (reach R (length work)) work

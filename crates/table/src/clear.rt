@@ -1,0 +1,46 @@
+// For the crates above: zeros.
+ghost use mathlib.Core.Path.{_≡_};
+ghost use lib.ListN.{length, replicate};
+ghost use Rattle.steps.specs.Table.{slices};
+ghost use Rattle.table.specs.Lent.{Lent};
+ghost use Rattle.table.specs.Calls.{cleared};
+
+pub fn zero_words(xs: &mut [u64])
+    ensures { λ _. ⌜ now (xs .exit) ≡ replicate (length (now (xs .entry))) 0 ⌝ }
+{
+    let mut i = 0;
+    while i < xs.len() {
+        xs[i] = 0;
+        i += 1;
+    }
+}
+
+pub fn zero_numbers(xs: &mut [u16])
+    ensures { λ _. ⌜ now (xs .exit) ≡ replicate (length (now (xs .entry))) 0 ⌝ }
+{
+    let mut i = 0;
+    while i < xs.len() {
+        xs[i] = 0;
+        i += 1;
+    }
+}
+
+pub fn zero_bytes(xs: &mut [u8])
+    ensures { λ _. ⌜ now (xs .exit) ≡ replicate (length (now (xs .entry))) 0 ⌝ }
+{
+    let mut i = 0;
+    while i < xs.len() {
+        xs[i] = 0;
+        i += 1;
+    }
+}
+
+// Zeros all free rows.
+pub fn free_rows(vs: &mut [u16], ts: &mut [u16], es: &mut [u16], count: usize)
+    requires { ⌜ Lent count (slices (now vs) (now ts) (now es)) ⌝ }
+    ensures { λ _. ⌜ slices (now (vs .exit)) (now (ts .exit)) (now (es .exit)) ≡ cleared count (slices (now (vs .entry)) (now (ts .entry)) (now (es .entry))) ⌝ }
+{
+    zero_numbers(&mut vs[count..]);
+    zero_numbers(&mut ts[count..]);
+    zero_numbers(&mut es[count..]);
+}
