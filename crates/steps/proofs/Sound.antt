@@ -7,9 +7,10 @@ use borrow.Author.Tests.{eqb-true, eqb-false, eq-eqb, ne-eqb, ltb-true, lt-ltb, 
 use Rattle.steps.specs.Rows.{Row, Rows, none, _▹_, next, find, row}
 use Rattle.steps.specs.Sound.{Fits, Sound, fits, sound}
 use Rattle.steps.proofs.Bools.{both-true}
+use Rattle.steps.proofs.Rows.{_≼_, stop, more}
 
 module _ (N : ℕ) where
-  fits-true : (R : Rows) (r : Row) → fits N R r ≡ true → Fits N R r
+  pub fits-true : (R : Rows) (r : Row) → fits N R r ≡ true → Fits N R r
   unfolding fits
   fits-true R r e =
       let e₆ = both-true _ (eqb (find R r) 0) e in
@@ -50,3 +51,9 @@ module _ (N : ℕ) where
   unfolding sound Sound
   true-sound none s = refl
   true-sound (R ▹ r) s = rw (true-sound R (s .0), true-fits R r (s .1))
+
+  -- a beginning of sound rows is sound
+  pub sound-part : {R S : Rows} → R ≼ S → sound N S ≡ true → sound N R ≡ true
+  unfolding sound
+  sound-part stop e = e
+  sound-part (more {S} {r} q) e = sound-part q (both-true (sound N S) (fits N S r) e .0)

@@ -119,3 +119,7 @@ module _ (R L S : ℕ) (e : index-size R ≡ S) where
   pub index-long : S ≤ L → index-words R L ≡ S
   unfolding index-words
   index-long h = rw (e, le-ltb L S h, index-words)
+
+-- an index has room for every row
+pub index-room : (R L : ℕ) → R ≤ 8192 → 0 < index-words R L → R ≤ index-words R L
+index-room R L h p = spans-room (spans R L h) p

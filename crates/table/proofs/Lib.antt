@@ -3,3 +3,6 @@ pub mod Links
 pub mod Walks
 pub mod Takes
 pub mod Enters
+pub mod Words
+pub mod Zeros
+pub mod Checking

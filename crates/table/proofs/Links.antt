@@ -162,3 +162,10 @@ module _ (rows : ℕ) (work : List ℕ) (R : Rows) (small : rows ≤ 8192) (free
 -- the bucket that was computed is in the index
 pub enter-bucket : (H b : ℕ) (r : Row) → (H ≡ 0 → ⊥) → bucket H r ≡ b → bucket H r < H → b < H
 enter-bucket H b r z q h = rw q at h
+
+-- the index stands while its words do
+pub chains-same : (H : ℕ) (R : Rows) (work work′ : List ℕ) → count R ≤ H → ((i : ℕ) → i < H → getD work′ i 0 ≡ getD work i 0) → Chains H R work → Chains H R work′
+chains-same H R work work′ h same ch = record {
+  heads = λ b l. ap (λ (w : ℕ). w / 65536) (same b l) ∙ ch .heads b l;
+  follows = followed-same H R work work′ (λ j l. ap (λ (w : ℕ). w % 65536) (same j (omega arith))) (ch .follows);
+}

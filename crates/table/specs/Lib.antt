@@ -2,3 +2,5 @@ pub mod Lent
 pub mod Index
 pub mod Memory
 pub mod Inner
+pub mod Calls
+pub mod Checks

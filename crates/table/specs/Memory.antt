@@ -10,15 +10,25 @@ use Rattle.steps.specs.Rows.{Rows, next}
 use Rattle.steps.specs.Steps.{Steps, answer, sum, product, normal}
 use Rattle.steps.specs.Table.{Slices, rows-of}
 use Rattle.steps.specs.Sound.{Sound}
-use Rattle.table.specs.Lent.{room, Lent}
+use Rattle.table.specs.declared.memory.Recalled.{Recalled}
+use Rattle.table.specs.declared.memory.Recalled.the-variants.{At, Nothing}
+use Rattle.table.specs.Lent.{room}
 use Rattle.table.specs.Index.{index-words, Indexed}
 
--- how many words remember results, of L - h that are there: as many as a table of R rows profits from
+-- how many words remember results, of so many behind the index: as many as a table of R rows profits from
 unfoldable pub memory-size : ℕ → ℕ → ℕ
 memory-size R free =
-    cond (ltb 1024 R && leb 16384 free) 16384
-    (cond (ltb 64 R && leb 2048 free) 2048
-    (cond (leb 128 free) 128 0))
+    cond (ltb free 128) 0
+    (cond (ltb free 2048) 128
+    (cond (leb R 64) 128
+    (cond (ltb free 16384) 2048
+    (cond (leb R 1024) 2048 16384))))
+
+-- the sizes that a memory can have
+pub data Size : ℕ → Type 0 where
+  large : Size 16384
+  middle : Size 2048
+  least : Size 128
 
 -- where the remembered results end, in a working slice of L words
 unfoldable pub reach : ℕ → ℕ → ℕ
@@ -57,6 +67,10 @@ pub record Stands (from to : ℕ) (work : List ℕ) (key k : ℕ) : Type 0 where
   pub before : at < to
   pub has-key : getD work at 0 / 65536 ≡ key
   pub has-result : getD work at 0 % 65536 ≡ k
+
+abbrev pub Recalls : Recalled → ℕ → ℕ → List ℕ → ℕ → Type 0
+Recalls (At k) from to work key = Stands from to work key (k .0)
+Recalls Nothing from to work key = Unit {0}
 
 -- one word of the memory was written, or none where there is no memory
 pub data Written (from to : ℕ) (work work′ : List ℕ) (w : ℕ) : Type 0 where

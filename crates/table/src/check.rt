@@ -1,4 +1,5 @@
 // For the crates above: the checks that every call on a table makes first.
+use crate::Row;
 use crate::clear::zero_words;
 use crate::index::Found;
 use crate::index::enter;
@@ -15,9 +16,9 @@ ghost use Rattle.steps.specs.Rows.{row-of};
 ghost use Rattle.steps.specs.Sound.{fits};
 ghost use Rattle.steps.specs.Table.{slices, row-at, rows-of};
 ghost use Rattle.table.specs.Lent.{Lent};
-ghost use Rattle.table.specs.Index.{Indexed};
+ghost use Rattle.table.specs.Index.{index-words, enter};
 ghost use Rattle.table.specs.Calls.{in-range};
-ghost use Rattle.table.specs.Checks.{parts-fit, Row-next, Prepared, SoundChecked, Checked};
+ghost use Rattle.table.specs.Checks.{parts-fit, RowNext, Zeroed, Prepared, SoundChecked, Checked};
 
 // What the checks find.
 pub enum Table {
@@ -71,7 +72,7 @@ fn parts_fit(vs: &[u16], ts: &[u16], es: &[u16], n: u16, i: usize, x: Node) -> b
 
 // Whether row i may stand after the i rows before it.
 fn row_fits(vs: &[u16], ts: &[u16], es: &[u16], work: &[u64], n: u16, i: usize) -> bool
-    requires { ⌜ Row-next i (slices (now vs) (now ts) (now es)) (now work) ⌝ }
+    requires { ⌜ RowNext i (slices (now vs) (now ts) (now es)) (now work) ⌝ }
     ensures { λ r. ⌜ fits n (rows-of (slices (now (vs .entry)) (now (ts .entry)) (now (es .entry))) i) (row-at (slices (now (vs .entry)) (now (ts .entry)) (now (es .entry))) i) ≡ r ⌝ }
 {
     let x = node_at(vs, ts, es, i);
@@ -86,8 +87,8 @@ fn row_fits(vs: &[u16], ts: &[u16], es: &[u16], work: &[u64], n: u16, i: usize) 
 
 // Enters row i into the index of the rows before it.
 fn enter_row(vs: &[u16], ts: &[u16], es: &[u16], work: &mut [u64], i: usize)
-    requires { ⌜ Row-next i (slices (now vs) (now ts) (now es)) (now work) ⌝ }
-    ensures { λ _. ⌜ Indexed-on i (slices (now (vs .entry)) (now (ts .entry)) (now (es .entry))) (now (work .entry)) (now (work .exit)) ⌝ }
+    requires { ⌜ RowNext i (slices (now vs) (now ts) (now es)) (now work) ⌝ }
+    ensures { λ _. ⌜ enter (index-words (length (now (vs .entry))) (length (now (work .entry)))) i (row-at (slices (now (vs .entry)) (now (ts .entry)) (now (es .entry))) i) (now (work .entry)) ≡ now (work .exit) ⌝ }
 {
     let h = index_words(vs.len(), work.len());
     let x = node_at(vs, ts, es, i);
@@ -110,12 +111,6 @@ fn rows_sound(vs: &[u16], ts: &[u16], es: &[u16], work: &mut [u64], n: u16, coun
     true
 }
 
-// Zeros the words of the working slice that a table of so many rows uses.
-fn prepare(work: &mut [u64], rows: usize) {
-    let used = words_used(rows, work.len());
-    zero_words(&mut work[..used]);
-}
-
 // The checks of every call on a table. Where they find nothing, the working slice is ready for the inner functions.
 pub fn check(n: usize, vs: &[u16], ts: &[u16], es: &[u16], count: usize, work: &mut [u64]) -> Table
     ensures { λ r. ⌜ Checked r n count (slices (now (vs .entry)) (now (ts .entry)) (now (es .entry))) (now (work .exit)) ⌝ }
@@ -123,7 +118,8 @@ pub fn check(n: usize, vs: &[u16], ts: &[u16], es: &[u16], count: usize, work: &
     if !in_range(n, vs, ts, es, count) {
         return Table::OutOfRange;
     }
-    prepare(work, vs.len());
+    let used = words_used(vs.len(), work.len());
+    zero_words(work, used);
     if rows_sound(vs, ts, es, work, n as u16, count) {
         Table::Fine
     } else {

@@ -1,15 +1,19 @@
 // For the crates above: zeros.
 ghost use mathlib.Core.Path.{_≡_};
-ghost use lib.ListN.{length, replicate};
+ghost use mathlib.Core.List.{_++_};
+ghost use Prim.Native.Nat.{_≤_};
+ghost use lib.ListN.{length, replicate, drop};
 ghost use Rattle.steps.specs.Table.{slices};
 ghost use Rattle.table.specs.Lent.{Lent};
 ghost use Rattle.table.specs.Calls.{cleared};
 
-pub fn zero_words(xs: &mut [u64])
-    ensures { λ _. ⌜ now (xs .exit) ≡ replicate (length (now (xs .entry))) 0 ⌝ }
+// Zeros the first words of the working slice.
+pub fn zero_words(xs: &mut [u64], upto: usize)
+    requires { ⌜ upto ≤ length (now xs) ⌝ }
+    ensures { λ _. ⌜ now (xs .exit) ≡ replicate upto 0 ++ drop upto (now (xs .entry)) ⌝ }
 {
     let mut i = 0;
-    while i < xs.len() {
+    while i < upto {
         xs[i] = 0;
         i += 1;
     }

@@ -1,6 +1,9 @@
 // The node table: three lent slices, for variable, then and else.
+pub mod check;
+pub mod clear;
 pub mod index;
 pub mod make;
+pub mod memory;
 pub mod rows;
 
 // A number: 0, 1, or 2 more than the place of a row.
@@ -8,3 +11,21 @@ pub struct Row(pub u16);
 
 // The index of a ring variable.
 pub struct Var(pub u16);
+
+// What a call that may append answers: a number, with the new count of rows in use; or a refusal's number.
+pub enum Answer {
+    Made(Row, usize),
+    Refused(u16),
+}
+
+// What the call value answers.
+pub enum Valued {
+    Value(bool),
+    NoValue(u16),
+}
+
+// What finding a one answers.
+pub enum Sought {
+    One,
+    NoOne(u16),
+}

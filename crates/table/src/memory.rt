@@ -9,7 +9,9 @@ ghost use Rattle.table.specs.Memory.{memory-size, reach, key-of, Size, R
 
 // The operations whose results are remembered.
 pub const SUM: u64 = 1;
+
 pub const PRODUCT: u64 = 2;
+
 pub const NORMAL_FORM: u64 = 3;
 
 // What the memory has under a key.
@@ -30,17 +32,22 @@ pub fn key(op: u64, f: Row, g: Row) -> u64
 fn memory_size(rows: usize, free: usize) -> usize
     ensures { λ r. ⌜ memory-size rows free ≡ r ⌝ }
 {
-    if 1024 < rows {
-        if 16384 <= free {
-            return 16384;
-        }
+    if free < 128 {
+        return 0;
     }
-    if 64 < rows {
-        if 2048 <= free {
-            return 2048;
-        }
+    if free < 2048 {
+        return 128;
     }
-    if 128 <= free { 128 } else { 0 }
+    if rows <= 64 {
+        return 128;
+    }
+    if free < 16384 {
+        return 2048;
+    }
+    if rows <= 1024 {
+        return 2048;
+    }
+    16384
 }
 
 // The word for a key among m.
