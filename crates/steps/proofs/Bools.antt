@@ -16,6 +16,10 @@ pub or-true : (b : Bool) → b || true ≡ true
 or-true true = refl
 or-true false = refl
 
+pub or-false : (b : Bool) → b || false ≡ b
+or-false true = refl
+or-false false = refl
+
 pub either-true : (a b : Bool) → a || true || b ≡ true
 either-true true b = refl
 either-true false b = refl

@@ -120,3 +120,18 @@ one-absent N (R ▹ r) s k u v h = go (one-absent N R (s .0)) (newest? R r k u) 
         top : Zero (r .else-part) → one (R ▹ r) k v ≡ false
         top (is z) = rw (e, one-then R r z, put-other (one R (r .then-part)) (r .var) true v (eqb-false v (r .var) (p .0))) (ih (r .then-part) (c .then-used) v (p .1))
         top (isnt z) = rw (e, one-else R r z) (ih (r .else-part) (c .else-used) v (q .1))
+
+-- only ring variables occur
+pub occurs-below : (N : ℕ) (R : Rows) → Sound N R → (k v : ℕ) → occurs v R k ≡ true → v < N
+unfolding Sound occurs
+occurs-below N none s k v h = absurd (let z : _≡_ {A = ℕ} 0 1 = cc in omega arith)
+occurs-below N (R ▹ r) s k v h = go (eqb k (next R)) refl (occurs-below N R (s .0))
+  where
+    top : (t : Bool) → eqb v (r .var) ≡ t → (u : Bool) → occurs v R (r .then-part) ≡ u → ((k v : ℕ) → occurs v R k ≡ true → v < N) → eqb v (r .var) || occurs v R (r .then-part) || occurs v R (r .else-part) ≡ true → v < N
+    top true e u f ih g = let q = eqb-true v (r .var) e in rw q (s .1 .var-below)
+    top false e true f ih g = ih (r .then-part) v f
+    top false e false f ih g = ih (r .else-part) v (rw (e, f) at g)
+
+    go : (b : Bool) → eqb k (next R) ≡ b → ((k v : ℕ) → occurs v R k ≡ true → v < N) → v < N
+    go true e ih = top (eqb v (r .var)) refl (occurs v R (r .then-part)) refl ih (rw (e, occurs) at h)
+    go false e ih = ih k v (rw (e, occurs) at h)

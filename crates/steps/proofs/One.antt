@@ -1,6 +1,6 @@
 -- Finding a one: it is a one, and the least.
 use Prim.Native.Nat.{ℕ, _<_, _≤_}
-use mathlib.Core.Path.{_≡_, refl, sym, _∙_}
+use mathlib.Core.Path.{_≡_, refl, sym, ap, _∙_}
 use mathlib.Core.Bool.{true, false, _&&_}
 use native.Mathlib.Omega.{arith}
 use borrow.Author.Tests.{eq-eqb, ne-eqb}
@@ -10,7 +10,7 @@ use Rattle.steps.specs.Sound.{Fits, Sound}
 use Rattle.steps.proofs.Bools.{both-true, xor-false, xor-false-right}
 use Rattle.steps.proofs.Compare.{Zero, is, isnt, zero?, Order, less, equal, greater, order}
 use Rattle.steps.proofs.Put.{put-same, put-other, value-put}
-use Rattle.steps.proofs.Rows.{Newest, newest, older, newest?, value-0, value-older, value-newest, row-older, row-newest}
+use Rattle.steps.proofs.Rows.{next-2, Newest, newest, older, newest?, value-0, value-older, value-newest, row-older, row-newest, node}
 
 pub one-older : (R : Rows) (r : Row) (k : ℕ) → k < next R → one (R ▹ r) k ≡ one R k
 unfolding one
@@ -145,3 +145,28 @@ module _ (N : ℕ) where
       go ih (newest e) (is z) = rw e (least-then R r (s .0) c z (ih (r .then-part) (c .then-used)))
       go ih (newest e) (isnt z) = rw e (least-else R r (s .0) c z (ih (r .else-part) (c .else-used)))
       go ih (older w) z = λ a va i agree o. ih k w a (rw (value-older a R r k w) at va) i (λ j h. agree j h ∙ rw (one-older R r k w)) (rw (one-older R r k w) at o)
+
+module _ (N : ℕ) where
+  -- a row's one goes by its else-part
+  pub one-row : (R : Rows) → Sound N R → (k : ℕ) → k < next R → 2 ≤ k
+      → (row N R k .else-part ≡ 0 → one R k ≡ put (one R (row N R k .then-part)) (row N R k .var) true) × ((row N R k .else-part ≡ 0 → ⊥) → one R k ≡ one R (row N R k .else-part))
+  unfolding Sound next
+  one-row none s k u g = absurd (omega arith)
+  one-row (R ▹ r) s k u g = go (newest? R r k u) (λ w. one-row R (s .0) k w g)
+    where
+      Claim : Rows → ℕ → Type 0
+      Claim S k = (row N S k .else-part ≡ 0 → one S k ≡ put (one S (row N S k .then-part)) (row N S k .var) true) × ((row N S k .else-part ≡ 0 → ⊥) → one S k ≡ one S (row N S k .else-part))
+
+      go : Newest R k → (k < next R → Claim R k) → Claim (R ▹ r) k
+      go (older w) ih =
+          let c = node N R (s .0) k w g .cut in
+          rw (row-older N R r k w, one-older R r k w, one-older R r (row N R k .then-part) (c .then-used), one-older R r (row N R k .else-part) (c .else-used)) (ih w)
+      go (newest e) ih =
+          let c = s .1 in
+          rw (e, row-newest N R r, one-older R r (r .then-part) (c .then-used), one-older R r (r .else-part) (c .else-used)) (one-then R r, one-else R r)
+
+  -- the one of a constant is all zeros
+  pub one-const : (R : Rows) (k : ℕ) → k < 2 → (i : ℕ) → one R k i ≡ false
+  unfolding one
+  one-const none k h i = refl
+  one-const (R ▹ r) k h i = let g = next-2 R in ap (λ (a : Assignment). a i) (one-older R r k (omega arith)) ∙ one-const R k h i

@@ -57,3 +57,8 @@ module _ (N : ℕ) where
   unfolding sound
   sound-part stop e = e
   sound-part (more {S} {r} q) e = sound-part q (both-true (sound N S) (fits N S r) e .0)
+
+  pub sound-below : {R S : Rows} → R ≼ S → Sound N S → Sound N R
+  unfolding Sound
+  sound-below stop s = s
+  sound-below (more q) s = sound-below q (s .0)

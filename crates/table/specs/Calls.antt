@@ -26,6 +26,10 @@ abbrev pub unless_then_else_ : {A : Type 0} → Bool → A → A → A
 unless_then_else_ true refusal a = a
 unless_then_else_ false refusal a = refusal
 
+-- "Calls on a table check in the order shown": 1 and 2 come first in each
+abbrev pub checked : {A : Type 0} → Bool → Bool → (ℕ → A) → A → A
+checked range sound refusal done = unless range then refusal 1 else unless sound then refusal 2 else done
+
 -- "1: N, lengths or count out of range"
 unfoldable pub in-range : ℕ → ℕ → Slices → Bool
 in-range N c s =
@@ -58,26 +62,28 @@ pub record Left : Type 0 where
   pub answer : Answer
   pub table : Slices
 
+abbrev pub left : Answer → Slices → Left
+left r s = record { answer = r; table = s }
+
 -- "Refusals 1 to 6 and 8 write nothing but the working slice."
 abbrev pub refuse : ℕ → Slices → Left
-refuse why s = record { answer = Refused why; table = s }
+refuse why s = left (Refused why) s
 
 -- "A call that may append returns the row number and the new count of rows in use." "7: room has run out by the written steps"
 abbrev pub end-in : Ending → ℕ → Slices → Left
-end-in (made k R) c s = record { answer = Made (record { 0 = k }) (count R); table = laid R s }
-end-in full c s = record { answer = Refused 7; table = cleared c s }
+end-in (made k R) c s = left (Made (record { 0 = k }) (count R)) (laid R s)
+end-in full c s = left (Refused 7) (cleared c s)
 
 -- the written steps, in the room that is lent
 abbrev pub take-steps : Steps → ℕ → Slices → Left
 take-steps m c s = end-in (within (room s) (m (rows-of s c))) c s
 
--- the variable x_v, "made as (v, 1, 0)"
+-- the variable x_v, "made as (v, 1, 0)"; "5: [..] a lead or asked variable not below N"
+abbrev pub variable-checked : ℕ → ℕ → Slices → ℕ → Left
+variable-checked N c s v = unless ltb v N then refuse 5 s else take-steps (make v 1 0) c s
+
 unfoldable pub variable-call : ℕ → ℕ → Slices → ℕ → Left
-variable-call N c s v =
-    unless in-range N c s then refuse 1 s
-    else unless sound N (rows-of s c) then refuse 2 s
-    else unless ltb v N then refuse 5 s
-    else take-steps (make v 1 0) c s
+variable-call N c s v = checked (in-range N c s) (sound N (rows-of s c)) (λ why. refuse why s) (variable-checked N c s v)
 
 -- an assignment as bytes
 abbrev pub assigned : List ℕ → Assignment
@@ -88,13 +94,15 @@ all-bits [] = true
 all-bits (b ∷ bytes) = ltb b 2 && all-bits bytes
 
 -- the value of f at an assignment; "8: an assignment byte isn't 0 or 1 (value only)"
-unfoldable pub value-call : ℕ → ℕ → Slices → ℕ → List ℕ → Valued
-value-call N c s f bytes =
-    unless in-range N c s && eqb (length bytes) N then NoValue 1
-    else unless sound N (rows-of s c) then NoValue 2
-    else unless in-use c f then NoValue 3
+abbrev pub value-checked : ℕ → Slices → ℕ → List ℕ → Valued
+value-checked c s f bytes =
+    unless in-use c f then NoValue 3
     else unless all-bits bytes then NoValue 8
     else Value (value (assigned bytes) (rows-of s c) f)
+
+-- "1: [..] assignment length not N"
+unfoldable pub value-call : ℕ → ℕ → Slices → ℕ → List ℕ → Valued
+value-call N c s f bytes = checked (eqb (length bytes) N && in-range N c s) (sound N (rows-of s c)) NoValue (value-checked c s f bytes)
 
 -- the values of x_0 to x_(N-1), as bytes
 abbrev pub bit : Bool → ℕ
@@ -110,17 +118,19 @@ pub record OneLeft : Type 0 where
   pub answer : Sought
   pub bytes : List ℕ
 
-abbrev pub no-one : ℕ → List ℕ → OneLeft
-no-one why bytes = record { answer = NoOne why; bytes = bytes }
+abbrev pub one-left : Sought → List ℕ → OneLeft
+one-left r bytes = record { answer = r; bytes = bytes }
 
 -- a one of f; "finding a one writes the whole assignment"; "6: find a one of 0"
+abbrev pub one-checked : ℕ → ℕ → Slices → ℕ → List ℕ → OneLeft
+one-checked N c s f bytes =
+    unless in-use c f then one-left (NoOne 3) bytes
+    else unless not (eqb f 0) then one-left (NoOne 6) bytes
+    else one-left One (bytes-of N (one (rows-of s c) f))
+
 unfoldable pub one-call : ℕ → ℕ → Slices → ℕ → List ℕ → OneLeft
 one-call N c s f bytes =
-    unless in-range N c s && eqb (length bytes) N then no-one 1 bytes
-    else unless sound N (rows-of s c) then no-one 2 bytes
-    else unless in-use c f then no-one 3 bytes
-    else unless not (eqb f 0) then no-one 6 bytes
-    else record { answer = One; bytes = bytes-of N (one (rows-of s c) f) }
+    checked (eqb (length bytes) N && in-range N c s) (sound N (rows-of s c)) (λ why. one-left (NoOne why) bytes) (one-checked N c s f bytes)
 
 -- what that means: the assignment is a one of f, and no one is less
 abbrev pub OneMeans : Sought → ℕ → Slices → ℕ → List ℕ → Type 0
