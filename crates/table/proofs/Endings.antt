@@ -1,38 +1,28 @@
 -- How the calls end: what taken steps leave is what the call's definition says.
-use Prim.Native.Nat.{ℕ, zero, suc, _+_, _-_, _<_, _≤_}
+use Prim.Native.Nat.{ℕ, zero, suc, _-_, _≤_}
 use mathlib.Core.Path.{_≡_, refl, sym, ap, subst, _∙_}
-use mathlib.Core.Bool.{Bool, true, false, _&&_, not}
-use mathlib.Core.List.{List, [], _∷_, _++_, append-nil}
+use mathlib.Core.Bool.{false}
+use mathlib.Core.List.{List, [], _∷_, _++_}
 use native.Mathlib.Omega.{arith}
-use native.Mathlib.Numerals.{add-one}
-use lib.Dec.{eqb, ltb}
-use lib.ListN.{length, getD, take, drop, replicate, take-append-drop, drop-of-length-le}
-use lib.Seq.{take-suc, drop-cons}
-use borrow.Author.Tests.{lt-ltb, le-ltb, eq-eqb, ne-eqb}
-use Rattle.steps.specs.Rows.{Row as Triple, Rows, count, Assignment, value}
-use Rattle.steps.specs.Sound.{Sound, sound}
+use lib.ListN.{length, getD, take, drop, replicate, take-append-drop}
+use lib.Seq.{take-suc}
+use Rattle.steps.specs.Rows.{Row as Triple, count}
+use Rattle.steps.specs.Sound.{sound}
 use Rattle.steps.specs.Table.{Slices, slices, row-at, rows-of}
-use Rattle.steps.specs.Steps.{Steps, make}
-use Rattle.steps.specs.Room.{Ending, made, full, within}
-use Rattle.steps.proofs.Sound.{sound-true}
+use Rattle.steps.specs.Steps.{Steps}
+use Rattle.steps.specs.Room.{Ending}
 use Rattle.steps.proofs.Table.{rows-of-count}
-use Rattle.table.specs.declared.Row.{Row}
-use Rattle.table.specs.declared.Answer.{Answer}
+use Rattle.table.specs.Calls.{in-range, column, freed, cleared, Left, left, refuse, end-in, take-steps, checked, finished}
+use Rattle.table.specs.Checks.{Checked}
+use Rattle.table.specs.Inner.{said, Taken}
+use Rattle.table.specs.Lent.{Lent}
+use Rattle.table.specs.Memory.{Live}
 use Rattle.table.specs.declared.Answer.the-variants.{Made as Answer-made, Refused}
-use Rattle.table.specs.declared.make.Made.{Made}
-use Rattle.table.specs.declared.make.Made.the-variants.{At, Full}
+use Rattle.table.specs.declared.Row.{Row}
 use Rattle.table.specs.declared.check.Table.{Table}
 use Rattle.table.specs.declared.check.Table.the-variants.{Fine, OutOfRange, Unsound}
-use Rattle.table.specs.Lent.{room, Lent}
-use Rattle.table.specs.Inner.{said, Taken}
-use Rattle.table.specs.Memory.{Live}
-use Rattle.table.specs.Checks.{Checked}
-use Rattle.steps.specs.One.{one}
-use Rattle.table.specs.declared.Valued.{Valued}
-use Rattle.table.specs.declared.Valued.the-variants.{Value, NoValue}
-use Rattle.table.specs.declared.Sought.the-variants.{One, NoOne}
-use Rattle.table.specs.Calls.{variable-checked, variable-call, assigned, value-checked, value-call, bytes-of, OneLeft, one-left, one-checked, one-call, all-bits, in-range, in-use, column, laid, freed, cleared, Left, left, refuse, end-in, take-steps, checked}
-use Rattle.table.specs.Ends.{finished, Lasting}
+use Rattle.table.specs.declared.make.Made.{Made}
+use Rattle.table.specs.declared.make.Made.the-variants.{At, Full}
 
 -- what stands below n in a slice is a column of the rows
 column-take : (n : ℕ) (s : Slices) (p : Triple → ℕ) (xs : List ℕ) → ((k : ℕ) → getD xs k 0 ≡ p (row-at s k)) → n ≤ length xs → take n xs ≡ column p (rows-of s n)
@@ -89,93 +79,12 @@ module _ (A : Type 0) (N c : ℕ) (s : Slices) (no : ℕ → A) (done : A) (work
 pub fine-live : {N c : ℕ} {s : Slices} {work : List ℕ} {t : Table} → Checked t N c s work → t ≡ Fine → Live N c s work
 fine-live {N} {c} {s} {work} d q = (subst (λ (t : Table). Checked t N c s work) q d) .live
 
-pub live-lasts : {N c : ℕ} {s : Slices} {work : List ℕ} → Live N c s work → (bytes : List ℕ) → length bytes ≡ N → Lasting c s bytes
-live-lasts {N} {c} {s} d bytes e = record { lent = d .indexed .lent; sound = rw e (d .sound) }
-
--- the test of the bytes, from byte i on
-module _ (bytes : List ℕ) (i : ℕ) where
-  pub bits-stop : i < length bytes → 1 < getD bytes i 0 → all-bits (drop i bytes) ≡ false
-  unfolding all-bits
-  bits-stop h g = rw (drop-cons bytes i 0 h, le-ltb (getD bytes i 0) 2 (omega arith))
-
-  pub bits-on : i < length bytes → getD bytes i 0 ≤ 1 → all-bits (drop i bytes) ≡ all-bits (drop (i + 1) bytes)
-  unfolding all-bits
-  bits-on h g = rw (add-one i, drop-cons bytes i 0 h, lt-ltb (getD bytes i 0) 2 (omega arith))
-
-  pub bits-end : length bytes ≤ i → all-bits (drop i bytes) ≡ true
-  unfolding all-bits
-  bits-end h = rw (drop-of-length-le bytes {i = i} h)
-
 -- what was made, once it is known
 pub finished-at : (c : ℕ) (s : Slices) {r : Made} {k : Row} {n : ℕ} → r ≡ At k n → finished r c s ≡ left (Answer-made k n) s
 finished-at c s q = ap (λ (m : Made). finished m c s) q
 
 pub finished-full : (c : ℕ) (s : Slices) {s′ : Slices} {r : Made} → r ≡ Full → s′ ≡ cleared c s → finished r c s ≡ left (Refused 7) s′
 finished-full c s q e = ap (λ (m : Made). finished m c s) q ∙ ap (left (Refused 7)) (sym e)
-
--- the ways out of the call value
-module _ (c : ℕ) (s : Slices) (f : ℕ) (bytes : List ℕ) where
-  pub value-out : c + 2 ≤ f → value-checked c s f bytes ≡ NoValue 3
-  value-out h = rw (le-ltb f (c + 2) h)
-
-  module _ (used : f < c + 2) where
-    pub value-bits : all-bits bytes ≡ false → value-checked c s f bytes ≡ NoValue 8
-    value-bits e = rw (lt-ltb f (c + 2) used, e)
-
-    pub value-is : all-bits bytes ≡ true → {b : Bool} → value (assigned bytes) (rows-of s c) f ≡ b → value-checked c s f bytes ≡ Value b
-    value-is e q = rw (lt-ltb f (c + 2) used, e, q)
-
-module _ (N c : ℕ) (s : Slices) (f : ℕ) (bytes : List ℕ) where
-  pub value-length : (length bytes ≡ N → ⊥) → value-call N c s f bytes ≡ NoValue 1
-  unfolding value-call
-  value-length h = rw (ne-eqb (length bytes) N h)
-
-  module _ (l : length bytes ≡ N) {work : List ℕ} {t : Table} (d : Checked t N c s work) where
-    value-checks : value-call N c s f bytes ≡ checked (in-range N c s) (sound N (rows-of s c)) NoValue (value-checked c s f bytes)
-    unfolding value-call
-    value-checks = rw (eq-eqb (length bytes) N l)
-
-    pub value-range : t ≡ OutOfRange → value-call N c s f bytes ≡ NoValue 1
-    value-range q = value-checks ∙ out-of-range Valued N c s NoValue _ work t d q
-
-    pub value-unsound : t ≡ Unsound → value-call N c s f bytes ≡ NoValue 2
-    value-unsound q = value-checks ∙ not-sound Valued N c s NoValue _ work t d q
-
-    pub value-fine : t ≡ Fine → {r : Valued} → value-checked c s f bytes ≡ r → value-call N c s f bytes ≡ r
-    value-fine q e = value-checks ∙ all-fine Valued N c s NoValue _ work t d q ∙ e
-
--- and of finding a one
-module _ (N c : ℕ) (s : Slices) (f : ℕ) (bytes : List ℕ) where
-  pub one-out : c + 2 ≤ f → one-checked N c s f bytes ≡ one-left (NoOne 3) bytes
-  one-out h = rw (le-ltb f (c + 2) h)
-
-  module _ (used : f < c + 2) where
-    pub one-zero : f ≡ 0 → one-checked N c s f bytes ≡ one-left (NoOne 6) bytes
-    one-zero e = rw (lt-ltb f (c + 2) used, eq-eqb f 0 e)
-
-    pub one-found : (f ≡ 0 → ⊥) → {bytes′ : List ℕ} → bytes′ ≡ bytes-of N (one (rows-of s c) f) → one-checked N c s f bytes ≡ one-left One bytes′
-    one-found e q = rw (lt-ltb f (c + 2) used, ne-eqb f 0 e) (ap (one-left One) (sym q))
-
-  pub one-length : (length bytes ≡ N → ⊥) → one-call N c s f bytes ≡ one-left (NoOne 1) bytes
-  unfolding one-call
-  one-length h = rw (ne-eqb (length bytes) N h)
-
-  module _ (l : length bytes ≡ N) {work : List ℕ} {t : Table} (d : Checked t N c s work) where
-    abbrev no : ℕ → OneLeft
-    no why = one-left (NoOne why) bytes
-
-    one-checks : one-call N c s f bytes ≡ checked (in-range N c s) (sound N (rows-of s c)) no (one-checked N c s f bytes)
-    unfolding one-call
-    one-checks = rw (eq-eqb (length bytes) N l)
-
-    pub one-range : t ≡ OutOfRange → one-call N c s f bytes ≡ one-left (NoOne 1) bytes
-    one-range q = one-checks ∙ out-of-range OneLeft N c s no _ work t d q
-
-    pub one-unsound : t ≡ Unsound → one-call N c s f bytes ≡ one-left (NoOne 2) bytes
-    one-unsound q = one-checks ∙ not-sound OneLeft N c s no _ work t d q
-
-    pub one-fine : t ≡ Fine → {r : OneLeft} → one-checked (length bytes) c s f bytes ≡ r → one-call N c s f bytes ≡ r
-    one-fine q e = one-checks ∙ all-fine OneLeft N c s no _ work t d q ∙ rw (← l) e
 
 -- the ways out of a call that may append, whose definition begins with the checks
 module _ (N c : ℕ) (s : Slices) (call done : Left) (e : call ≡ checked (in-range N c s) (sound N (rows-of s c)) (λ why. refuse why s) done) {work : List ℕ} {t : Table} (d : Checked t N c s work) where
@@ -188,11 +97,6 @@ module _ (N c : ℕ) (s : Slices) (call done : Left) (e : call ≡ checked (in-r
   pub call-fine : t ≡ Fine → {r : Left} → done ≡ r → call ≡ r
   call-fine q p = e ∙ all-fine Left N c s (λ why. refuse why s) done work t d q ∙ p
 
-pub variable-is : (N c : ℕ) (s : Slices) (v : ℕ) → variable-call N c s v ≡ checked (in-range N c s) (sound N (rows-of s c)) (λ why. refuse why s) (variable-checked N c s v)
-unfolding variable-call
-variable-is N c s v = refl
-
 -- the working slice is all zeros after every call
-pub zeros-all : (n : ℕ) (work work′ : List ℕ) {work″ : List ℕ} → n ≡ length work′ → length work′ ≡ length work → work″ ≡ replicate n 0 ++ drop n work′ → work″ ≡ replicate (length work) 0
-zeros-all n work work′ q l e =
-    e ∙ ap (λ (xs : List ℕ). replicate n 0 ++ xs) (drop-of-length-le work′ {i = n} (omega arith)) ∙ append-nil (replicate n 0) ∙ ap (λ (k : ℕ). replicate k 0) (q ∙ l)
+pub zeros-left : (work work′ : List ℕ) {work″ : List ℕ} → length work′ ≡ length work → work″ ≡ replicate (length work′) 0 → work″ ≡ replicate (length work) 0
+zeros-left work work′ l e = e ∙ ap (λ (n : ℕ). replicate n 0) l

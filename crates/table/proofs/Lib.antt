@@ -6,7 +6,4 @@ pub mod Enters
 pub mod Words
 pub mod Zeros
 pub mod Checking
-pub mod Values
-pub mod Ones
 pub mod Endings
-pub mod Meanings

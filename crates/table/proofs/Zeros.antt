@@ -35,3 +35,6 @@ zeros-from c xs ys q =
 -- filled up to n
 pub zeros-upto : (i n : ℕ) (xs₀ xs : List ℕ) → i ≤ n → n ≤ i → Filled xs₀ i xs → xs ≡ replicate n 0 ++ drop n xs₀
 zeros-upto i n xs₀ xs h g inv = let q : i ≡ n = omega arith in rw q at (inv .2)
+
+pub zeros-all : (xs : List ℕ) {xs′ : List ℕ} → xs′ ≡ replicate (length xs) 0 ++ drop (length xs) xs → xs′ ≡ replicate (length xs) 0
+zeros-all xs e = e ∙ ap (λ (l : List ℕ). replicate (length xs) 0 ++ l) (drop-of-length-le xs {i = length xs} (omega arith)) ∙ append-nil (replicate (length xs) 0)

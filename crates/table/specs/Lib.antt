@@ -4,4 +4,3 @@ pub mod Memory
 pub mod Inner
 pub mod Calls
 pub mod Checks
-pub mod Ends

@@ -19,6 +19,14 @@ pub fn zero_words(xs: &mut [u64], upto: usize)
     }
 }
 
+// Zeros the whole working slice, as every call leaves it.
+pub fn zero_work(work: &mut [u64])
+    ensures { λ _. ⌜ now (work .exit) ≡ replicate (length (now (work .entry))) 0 ⌝ }
+{
+    let all = work.len();
+    zero_words(work, all);
+}
+
 pub fn zero_numbers(xs: &mut [u16])
     ensures { λ _. ⌜ now (xs .exit) ≡ replicate (length (now (xs .entry))) 0 ⌝ }
 {

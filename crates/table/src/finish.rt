@@ -5,8 +5,7 @@ use crate::make::Made;
 ghost use mathlib.Core.Path.{_≡_};
 ghost use Rattle.steps.specs.Table.{slices};
 ghost use Rattle.table.specs.Lent.{Lent};
-ghost use Rattle.table.specs.Calls.{left};
-ghost use Rattle.table.specs.Ends.{finished};
+ghost use Rattle.table.specs.Calls.{left, finished};
 
 // What was made is the answer; where room has run out, the free rows are zeroed.
 pub fn finish(vs: &mut [u16], ts: &mut [u16], es: &mut [u16], count: usize, made: Made) -> Answer

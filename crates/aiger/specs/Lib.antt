@@ -1,0 +1,5 @@
+pub mod Form
+pub mod Net
+pub mod Meaning
+pub mod Answers
+pub mod Marked

@@ -1,0 +1,4 @@
+pub mod Values
+pub mod Ones
+pub mod Exits
+pub mod Meanings
