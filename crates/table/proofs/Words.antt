@@ -87,11 +87,11 @@ module _ (R L h m : ℕ) (eh : index-words R L ≡ h) (em : memory-size R (L - h
 
 -- the operations
 module _ (N : ℕ) where
-  steps-sum : (f g : ℕ) → steps-of N 1 f g ≡ sum N f g
+  pub steps-sum : (f g : ℕ) → steps-of N 1 f g ≡ sum N f g
   unfolding steps-of
   steps-sum f g = refl
 
-  steps-product : (f g : ℕ) → steps-of N 2 f g ≡ product N f g
+  pub steps-product : (f g : ℕ) → steps-of N 2 f g ≡ product N f g
   unfolding steps-of
   steps-product f g = refl
 

@@ -1,0 +1,4 @@
+pub mod Keeping
+pub mod Splits
+pub mod Remembering
+pub mod Deep

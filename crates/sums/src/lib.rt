@@ -1,0 +1,3 @@
+// The sum of two polynomials by the written steps.
+pub mod parts;
+pub mod written;
