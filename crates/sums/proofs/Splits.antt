@@ -52,23 +52,47 @@ module _ (N : ℕ) (R : Rows) (s : Sound N R) (f g : ℕ) (uf : f < next R) (ug 
       let b : root N R f < N = omega (arith, root-le N R s g ug) in
       let c = node-below N s f uf b .cut in
       record {
-        below = b; lesser = min-left h; ft-used = c .then-used; gt-used = zero-used; fe-used = c .else-used; ge-used = ug;
-        ft-above = c .then-above; gt-above = zero-above _ b; fe-above = c .else-above; ge-above = h;
+        below = b;
+        lesser = min-left h;
+        ft-used = c .then-used;
+        gt-used = zero-used;
+        fe-used = c .else-used;
+        ge-used = ug;
+        ft-above = c .then-above;
+        gt-above = zero-above _ b;
+        fe-above = c .else-above;
+        ge-above = h;
       }
   split-at (more h) =
       let b : root N R g < N = omega (arith, root-le N R s f uf) in
       let c = node-below N s g ug b .cut in
       record {
-        below = b; lesser = min-right h; ft-used = zero-used; gt-used = c .then-used; fe-used = uf; ge-used = c .else-used;
-        ft-above = zero-above _ b; gt-above = c .then-above; fe-above = h; ge-above = c .else-above;
+        below = b;
+        lesser = min-right h;
+        ft-used = zero-used;
+        gt-used = c .then-used;
+        fe-used = uf;
+        ge-used = c .else-used;
+        ft-above = zero-above _ b;
+        gt-above = c .then-above;
+        fe-above = h;
+        ge-above = c .else-above;
       }
   split-at (both h) =
       let b = meet h (kind f) (kind g) in
       let c = node-below N s f uf b .cut in
       let d = node-below N s g ug (rw h at b) .cut in
       record {
-        below = b; lesser = min-same h; ft-used = c .then-used; gt-used = d .then-used; fe-used = c .else-used; ge-used = d .else-used;
-        ft-above = c .then-above; gt-above = rw h (d .then-above); fe-above = c .else-above; ge-above = rw h (d .else-above);
+        below = b;
+        lesser = min-same h;
+        ft-used = c .then-used;
+        gt-used = d .then-used;
+        fe-used = c .else-used;
+        ge-used = d .else-used;
+        ft-above = c .then-above;
+        gt-above = rw h (d .then-above);
+        fe-above = c .else-above;
+        ge-above = rw h (d .else-above);
       }
 
   -- the sum's steps in one form

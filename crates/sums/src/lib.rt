@@ -17,7 +17,16 @@ ghost use Rattle.steps.specs.Table.{slices};
 ghost use Rattle.table.specs.Memory.{Live};
 ghost use Rattle.sums.specs.Calls.{pair-checked, sum-call, Answered};
 
-fn sum_ready(n: usize, vs: &mut [u16], ts: &mut [u16], es: &mut [u16], count: usize, work: &mut [u64], f: Row, g: Row) -> Answer
+fn sum_ready(
+    n: usize,
+    vs: &mut [u16],
+    ts: &mut [u16],
+    es: &mut [u16],
+    count: usize,
+    work: &mut [u64],
+    f: Row,
+    g: Row,
+) -> Answer
     requires { ⌜ (Live n count (slices (now vs) (now ts) (now es)) (now work)) × (n ≤ 1024) ⌝ }
     ensures { λ r. ⌜ Answered xor (pair-checked (sum n (f .0) (g .0)) count (slices (now (vs .entry)) (now (ts .entry)) (now (es .entry))) (f .0) (g .0)) r count (slices (now (vs .entry)) (now (ts .entry)) (now (es .entry))) (slices (now (vs .exit)) (now (ts .exit)) (now (es .exit))) (f .0) (g .0) ⌝ }
 {
@@ -31,7 +40,16 @@ fn sum_ready(n: usize, vs: &mut [u16], ts: &mut [u16], es: &mut [u16], count: us
     finish(vs, ts, es, count, made)
 }
 
-fn sum_checked(n: usize, vs: &mut [u16], ts: &mut [u16], es: &mut [u16], count: usize, work: &mut [u64], f: Row, g: Row) -> Answer
+fn sum_checked(
+    n: usize,
+    vs: &mut [u16],
+    ts: &mut [u16],
+    es: &mut [u16],
+    count: usize,
+    work: &mut [u64],
+    f: Row,
+    g: Row,
+) -> Answer
     ensures { λ r. ⌜ Answered xor (sum-call n count (slices (now (vs .entry)) (now (ts .entry)) (now (es .entry))) (f .0) (g .0)) r count (slices (now (vs .entry)) (now (ts .entry)) (now (es .entry))) (slices (now (vs .exit)) (now (ts .exit)) (now (es .exit))) (f .0) (g .0) ⌝ }
 {
     let table = check(n, vs, ts, es, count, work);
@@ -43,7 +61,16 @@ fn sum_checked(n: usize, vs: &mut [u16], ts: &mut [u16], es: &mut [u16], count: 
 }
 
 // The sum f + g.
-pub fn sum(n: usize, vs: &mut [u16], ts: &mut [u16], es: &mut [u16], count: usize, work: &mut [u64], f: Row, g: Row) -> Answer
+pub fn sum(
+    n: usize,
+    vs: &mut [u16],
+    ts: &mut [u16],
+    es: &mut [u16],
+    count: usize,
+    work: &mut [u64],
+    f: Row,
+    g: Row,
+) -> Answer
     ensures { λ r. ⌜ Answered xor (sum-call n count (slices (now (vs .entry)) (now (ts .entry)) (now (es .entry))) (f .0) (g .0)) r count (slices (now (vs .entry)) (now (ts .entry)) (now (es .entry))) (slices (now (vs .exit)) (now (ts .exit)) (now (es .exit))) (f .0) (g .0) ⌝ }
     ensures { λ _. ⌜ now (work .exit) ≡ replicate (length (now (work .entry))) 0 ⌝ }
 {

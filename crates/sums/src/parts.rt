@@ -22,10 +22,28 @@ pub fn split(vs: &[u16], ts: &[u16], es: &[u16], n: u16, count: usize, f: Row, g
     let a = row_of(vs, ts, es, count, n, f);
     let b = row_of(vs, ts, es, count, n, g);
     if a.v.0 < b.v.0 {
-        return Parts { v: Var(a.v.0), ft: Row(a.t.0), gt: Row(0), fe: Row(a.e.0), ge: g };
+        return Parts {
+            v: Var(a.v.0),
+            ft: Row(a.t.0),
+            gt: Row(0),
+            fe: Row(a.e.0),
+            ge: g,
+        };
     }
     if b.v.0 < a.v.0 {
-        return Parts { v: Var(b.v.0), ft: Row(0), gt: Row(b.t.0), fe: f, ge: Row(b.e.0) };
+        return Parts {
+            v: Var(b.v.0),
+            ft: Row(0),
+            gt: Row(b.t.0),
+            fe: f,
+            ge: Row(b.e.0),
+        };
     }
-    Parts { v: Var(a.v.0), ft: Row(a.t.0), gt: Row(b.t.0), fe: Row(a.e.0), ge: Row(b.e.0) }
+    Parts {
+        v: Var(a.v.0),
+        ft: Row(a.t.0),
+        gt: Row(b.t.0),
+        fe: Row(a.e.0),
+        ge: Row(b.e.0),
+    }
 }

@@ -26,7 +26,16 @@ fn sum_key(f: Row, g: Row) -> u64
 }
 
 // The sum f + g.
-pub fn sum(vs: &mut [u16], ts: &mut [u16], es: &mut [u16], work: &mut [u64], n: u16, count: usize, f: Row, g: Row) -> Made
+pub fn sum(
+    vs: &mut [u16],
+    ts: &mut [u16],
+    es: &mut [u16],
+    work: &mut [u64],
+    n: u16,
+    count: usize,
+    f: Row,
+    g: Row,
+) -> Made
     requires { ⌜ Pair n count (slices (now vs) (now ts) (now es)) (now work) (f .0) (g .0) ⌝ }
     ensures { λ r. ⌜ Kept n (sum n (f .0) (g .0)) r count (slices (now (vs .entry)) (now (ts .entry)) (now (es .entry))) (slices (now (vs .exit)) (now (ts .exit)) (now (es .exit))) (now (work .entry)) (now (work .exit)) ⌝ }
 {
@@ -51,7 +60,16 @@ pub fn sum(vs: &mut [u16], ts: &mut [u16], es: &mut [u16], work: &mut [u64], n: 
 }
 
 // The same where neither number is 0 and they are not equal: the sums of the then-parts and of the else-parts, make.
-fn sum_deep(vs: &mut [u16], ts: &mut [u16], es: &mut [u16], work: &mut [u64], n: u16, count: usize, f: Row, g: Row) -> Made
+fn sum_deep(
+    vs: &mut [u16],
+    ts: &mut [u16],
+    es: &mut [u16],
+    work: &mut [u64],
+    n: u16,
+    count: usize,
+    f: Row,
+    g: Row,
+) -> Made
     requires { ⌜ Pair n count (slices (now vs) (now ts) (now es)) (now work) (f .0) (g .0) ⌝ }
     requires { ⌜ Apart (f .0) (g .0) ⌝ }
     ensures { λ r. ⌜ Kept n (sum n (f .0) (g .0)) r count (slices (now (vs .entry)) (now (ts .entry)) (now (es .entry))) (slices (now (vs .exit)) (now (ts .exit)) (now (es .exit))) (now (work .entry)) (now (work .exit)) ⌝ }
