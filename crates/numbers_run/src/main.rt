@@ -249,6 +249,9 @@ fn x_1(which: usize) {
     value(which, 1, &vs, &ts, &es, 1, 3, &[2u8; 1]);
     value(which, 3, &vs, &ts, &es, 1, 2, &[0u8, 1]);
     let mut bytes = [5u8; 3];
+    one(which, 2, &vs, &ts, &es, 1, 2, &mut bytes);
+    let mut byte = [5u8; 1];
+    one(which, 1, &vs, &ts, &es, 1, 2, &mut byte);
     one(which, 3, &vs, &ts, &es, 1, 3, &mut bytes);
     show_bytes(bytes[0], bytes[1], bytes[2]);
     one(which, 3, &vs, &ts, &es, 1, 2, &mut bytes);

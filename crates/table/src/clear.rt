@@ -27,12 +27,12 @@ pub fn zero_work(work: &mut [u64])
     zero_words(work, all);
 }
 
-pub fn zero_numbers(xs: &mut [u16])
-    ensures { λ _. ⌜ now (xs .exit) ≡ replicate (length (now (xs .entry))) 0 ⌝ }
+pub fn zero_numbers(rows: &mut [u16])
+    ensures { λ _. ⌜ now (rows .exit) ≡ replicate (length (now (rows .entry))) 0 ⌝ }
 {
     let mut i = 0;
-    while i < xs.len() {
-        xs[i] = 0;
+    while i < rows.len() {
+        rows[i] = 0;
         i += 1;
     }
 }

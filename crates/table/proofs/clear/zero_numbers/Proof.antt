@@ -10,19 +10,19 @@ use Rattle.table.proofs.clear.zero_numbers.Reads as reads
 use Rattle.table.proofs.clear.zero_numbers.Lts as lts
 
 abbrev Inv-loop : tie.InvT-loop
-Inv-loop xs₀ i₀ xs i = Filled xs₀ i xs
+Inv-loop rows₀ i₀ rows i = Filled rows₀ i rows
 
 abbrev μ-loop : tie.MeasureT-loop
-μ-loop xs₀ i₀ xs i = length xs - i
+μ-loop rows₀ i₀ rows i = length rows - i
 
 loop-holds : tie.Need-loop-holds Inv-loop μ-loop
 loop-holds c = (omega arith, refl, refl)
 
-mul-xs : tie.Need-mul-xs Inv-loop μ-loop
-mul-xs c = search needs
+mul-rows : tie.Need-mul-rows Inv-loop μ-loop
+mul-rows c = search needs
 
-slice-write-xs : tie.Need-slice-write-xs Inv-loop μ-loop
-slice-write-xs c = search needs
+slice-write-rows : tie.Need-slice-write-rows Inv-loop μ-loop
+slice-write-rows c = search needs
 
 add-i : tie.Need-add-i Inv-loop μ-loop
 add-i c = omega arith
@@ -46,8 +46,8 @@ zero-numbers-spec =
     Inv-loop
     μ-loop
     loop-holds
-    mul-xs
-    slice-write-xs
+    mul-rows
+    slice-write-rows
     add-i
     loop-less
     loop-again
