@@ -1,7 +1,7 @@
 -- The steps of the product.
 use Prim.Native.Nat.{ℕ, zero, suc, _+_, _<_, _≤_}
 use mathlib.Core.Path.{_≡_, refl, sym, _∙_}
-use mathlib.Core.Bool.{Bool, true, false, _&&_}
+use mathlib.Core.Bool.{Bool, true, false, _&&_, xor}
 use native.Mathlib.Omega.{arith}
 use lib.Dec.{eqb}
 use borrow.Author.Tests.{eqb-true, eqb-false, eq-eqb, ne-eqb, lt-ltb, le-ltb}
@@ -97,10 +97,10 @@ module _ (N : ℕ) where
       products,
     )
 
-  absent-right : (k v h l g : ℕ) (S : Rows) → product-step (suc k) v h l 0 g S ≡ (products N (suc k) h g >>= λ t. products N (suc k) l g >>= make v t) S
+  pub absent-right : (k v h l g : ℕ) (S : Rows) → product-step (suc k) v h l 0 g S ≡ (products N (suc k) h g >>= λ t. products N (suc k) l g >>= make v t) S
   absent-right k v h l g S = simp (products-right-0, sums-left-0)
 
-  absent-left : (k v f h l : ℕ) (S : Rows) → product-step (suc k) v 0 f h l S ≡ (products N (suc k) f h >>= λ t. products N (suc k) f l >>= make v t) S
+  pub absent-left : (k v f h l : ℕ) (S : Rows) → product-step (suc k) v 0 f h l S ≡ (products N (suc k) f h >>= λ t. products N (suc k) f l >>= make v t) S
   absent-left k v f h l S = simp (products-left-0, sums-right-0)
 
   data ProductCase (R : Rows) (low f g : ℕ) : Type 0 where
@@ -152,9 +152,13 @@ module _ (N : ℕ) where
   ProductsOk k = (j : ℕ) (R : Rows) (low f g : ℕ) (p q : Assignment → Bool) → N < low + k → N < low + j → Sound N R → Is N R low p f → Is N R low q g
       → Ok N (products N k f g) (products N j f g) R low (λ a. p a && q a)
 
-  pub product-step-ok : (k j : ℕ) → ProductsOk k → {R : Rows} {v f h l g h′ l′ : ℕ} → N < suc v + k → N < suc v + j → Sound N R → v < N → Cut N R v f h l → Cut N R v g h′ l′
-      → Ok N (product-step k v h l h′ l′) (product-step j v h l h′ l′) R v (λ a. value a R f && value a R g)
-  product-step-ok k j ih {R} {v} {f} {h} {l} {g} {h′} {l′} d d′ s b cf cg =
+  -- the then-part of the step
+  abbrev pub then-step : (k h l h′ l′ : ℕ) → Steps
+  then-step k h l h′ l′ = products N k l h′ >>= λ a. products N k h h′ >>= λ b. products N k h l′ >>= λ c. sum N a b >>= λ d. sum N d c
+
+  pub then-step-ok : (k j : ℕ) → ProductsOk k → {R : Rows} {v f h l g h′ l′ : ℕ} → N < suc v + k → N < suc v + j → Sound N R → v < N → Cut N R v f h l → Cut N R v g h′ l′
+      → Ok N (then-step k h l h′ l′) (then-step j h l h′ l′) R (suc v) (λ a. xor (xor (value a R l && value a R h′) (value a R h && value a R h′)) (value a R h && value a R l′))
+  then-step-ok k j ih {R} {v} {f} {h} {l} {g} {h′} {l′} d d′ s b cf cg =
       let v₁ : Assignment → Bool = λ a. value a R h in
       let v₂ : Assignment → Bool = λ a. value a R l in
       let w₁ : Assignment → Bool = λ a. value a R h′ in
@@ -163,16 +167,22 @@ module _ (N : ℕ) where
       let tl = part N cf .1 in
       let uh = part N cg .0 in
       let ul = part N cg .1 in
-      ok-as N (omega arith) (λ a. mul-parts (a v) (v₁ a) (v₂ a) (w₁ a) (w₂ a) ∙ rw (← cf .splits a, ← cg .splits a))
-      (ok-bind N (ih j R (suc v) l h′ v₂ w₁ d d′ s tl uh) λ x₁ R₁ k₁ s₁ i₁.
+      ok-bind N (ih j R (suc v) l h′ v₂ w₁ d d′ s tl uh) λ x₁ R₁ k₁ s₁ i₁.
       ok-bind N (ih j R₁ (suc v) h h′ v₁ w₁ d d′ s₁ (is-keeps N k₁ th) (is-keeps N k₁ uh)) λ x₂ R₂ k₂ s₂ i₂.
       let m₂ = ≼-trans k₁ k₂ in
       ok-bind N (ih j R₂ (suc v) h l′ v₁ w₂ d d′ s₂ (is-keeps N m₂ th) (is-keeps N m₂ ul)) λ x₃ R₃ k₃ s₃ i₃.
       ok-bind N (ok-sums N (suc N) (suc N) R₃ (suc v) x₁ x₂ _ _ (omega arith) (omega arith) s₃ (is-keeps N (≼-trans k₂ k₃) i₁) (is-keeps N k₃ i₂)) λ x₄ R₄ k₄ s₄ i₄.
-      ok-bind N (ok-sums N (suc N) (suc N) R₄ (suc v) x₄ x₃ _ _ (omega arith) (omega arith) s₄ i₄ (is-keeps N k₄ i₃)) λ x₅ R₅ k₅ s₅ i₅.
-      let m₅ = ≼-trans m₂ (≼-trans k₃ (≼-trans k₄ k₅)) in
-      ok-bind N (ih j R₅ (suc v) l l′ v₂ w₂ d d′ s₅ (is-keeps N m₅ tl) (is-keeps N m₅ ul)) λ x₆ R₆ k₆ s₆ i₆.
-      ok-make N s₆ b (is-keeps N k₆ i₅) i₆)
+      ok-sums N (suc N) (suc N) R₄ (suc v) x₄ x₃ _ _ (omega arith) (omega arith) s₄ i₄ (is-keeps N k₄ i₃)
+
+  pub product-step-ok : (k j : ℕ) → ProductsOk k → {R : Rows} {v f h l g h′ l′ : ℕ} → N < suc v + k → N < suc v + j → Sound N R → v < N → Cut N R v f h l → Cut N R v g h′ l′
+      → Ok N (product-step k v h l h′ l′) (product-step j v h l h′ l′) R v (λ a. value a R f && value a R g)
+  product-step-ok k j ih {R} {v} {f} {h} {l} {g} {h′} {l′} d d′ s b cf cg =
+      let tl = part N cf .1 in
+      let ul = part N cg .1 in
+      ok-as N (omega arith) (λ a. mul-parts (a v) (value a R h) (value a R l) (value a R h′) (value a R l′) ∙ rw (← cf .splits a, ← cg .splits a))
+      (ok-bind N (then-step-ok k j ih d d′ s b cf cg) λ t R₁ k₁ s₁ i₁.
+      ok-bind N (ih j R₁ (suc v) l l′ (λ a. value a R l) (λ a. value a R l′) d d′ s₁ (is-keeps N k₁ tl) (is-keeps N k₁ ul)) λ e R₂ k₂ s₂ i₂.
+      ok-make N s₂ b (is-keeps N k₂ i₁) i₂)
 
   products-ok : (k j : ℕ) → ProductsOk k → (R : Rows) (low f g : ℕ) (p q : Assignment → Bool) → N < low + suc k → N < low + suc j → Sound N R → Is N R low p f → Is N R low q g
       → ProductCase R low f g → Ok N (products N (suc k) f g) (products N (suc j) f g) R low (λ a. p a && q a)

@@ -49,11 +49,6 @@ within-bind room m f R k = go (fit room (m R))
     go (fits h e) = rw e
     go (over h e) = rw e (within-full room ((m >>= f) R) (let g = count-grows k in omega arith))
 
--- the table is full exactly when a row must be appended and all are in use
-pub make-full : (room v t e : ℕ) (R : Rows) → count R ≡ room → (t ≡ 0 → ⊥) → find R (row-of v t e) ≡ 0 → within room (make v t e R) ≡ full
-unfolding make count
-make-full room v t e R h t0 f = rw (ne-eqb t 0 t0, f, make) (within-full room (answer (next R) (R ▹ row-of v t e)) (omega arith))
-
 -- what was made is what the steps answer
 pub within-tells : (room : ℕ) (a : Answer) (x : ℕ) (S : Rows) → within room a ≡ made x S → a ≡ answer x S
 within-tells room a x S e = go (fit room a)

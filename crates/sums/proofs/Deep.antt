@@ -36,9 +36,6 @@ module _ (N c : ℕ) (s : Slices) (work : List ℕ) (f g : ℕ) (d : Pair N c s 
   at : At N R f g v ft gt fe ge
   at = split-at N R (d .live .sound) f g (used f (d .left)) (used g (d .right)) a p
 
-  then-make : ℕ → Steps
-  then-make t = sum N fe ge >>= make v t
-
   keeps : (t : ℕ) → Keeps (sum N fe ge >>= make v t)
   keeps t = keeps-bind (sum N fe ge) (make v t) (keeps-sums N (suc N) fe ge) (keeps-make v t)
 

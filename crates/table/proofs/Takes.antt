@@ -24,10 +24,6 @@ use Rattle.table.specs.Inner.{said, Beyond, Rest, Taken}
 pub taken-by : {m n : Steps} {r : Made} {c : ℕ} {s s′ : Slices} → m (rows-of s c) ≡ n (rows-of s c) → Taken n r c s s′ → Taken m r c s s′
 taken-by {s = s} p d = record { is = ap (within (room s)) p ∙ d .is; vars = d .vars; thens = d .thens; elses = d .elses; kept = d .kept; rest = d .rest }
 
--- the answer as it is known after a match
-pub taken-is : {m : Steps} {r r′ : Made} {c : ℕ} {s s′ : Slices} → r ≡ r′ → Taken m r c s s′ → Taken m r′ c s s′
-taken-is {m} {c = c} {s} {s′} p d = subst (λ (x : Made). Taken m x c s s′) p d
-
 -- nothing was appended
 pub taken-nothing : {m : Steps} {k : Row} {c : ℕ} {s : Slices} → c ≤ room s → m (rows-of s c) ≡ answer (k .0) (rows-of s c) → Taken m (At k c) c s s
 taken-nothing {m} {k} {c} {s} h p = record {

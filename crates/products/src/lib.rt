@@ -1,0 +1,2 @@
+// The product by the written steps.
+pub mod written;
