@@ -81,7 +81,7 @@ module _ (N c : ℕ) (s : Slices) (work : List ℕ) (a ft gt ge : ℕ) (d : Quad
   rest-asks t e =
       let R = rows-of s c in
       let h : min (root N R ft) (min (root N R gt) (root N R ge)) ≤ min (root N R ft) (root N R gt) =
-          le-min (min-le-left (root N R ft) (min (root N R gt) (root N R ge))) (omega (arith, min-le-right (root N R ft) (min (root N R gt) (root N R ge)), min-le-left (root N R gt) (root N R ge))) in
+      le-min (min-le-left (root N R ft) (min (root N R gt) (root N R ge))) (omega (arith, min-le-right (root N R ft) (min (root N R gt) (root N R ge)), min-le-left (root N R gt) (root N R ge))) in
       (omega arith, record { live = d .live; left = d .ft-used; right = d .gt-used })
 
   pub rest-full : {s₁ : Slices} {work₁ : List ℕ} → Kept N (product N ft gt) Full c s s₁ work work₁ → Kept N (rest-steps N a ft gt ge) Full c s s₁ work work₁
@@ -95,7 +95,7 @@ module _ (N c : ℕ) (s : Slices) (work : List ℕ) (a ft gt ge : ℕ) (d : Quad
     rest-asks-2 t e =
         let R = rows-of s c in
         let h : min (root N R ft) (min (root N R gt) (root N R ge)) ≤ min (root N R ft) (root N R ge) =
-            le-min (min-le-left (root N R ft) (min (root N R gt) (root N R ge))) (omega (arith, min-le-right (root N R ft) (min (root N R gt) (root N R ge)), min-le-right (root N R gt) (root N R ge))) in
+        le-min (min-le-left (root N R ft) (min (root N R gt) (root N R ge))) (omega (arith, min-le-right (root N R ft) (min (root N R gt) (root N R ge)), min-le-right (root N R gt) (root N R ge))) in
         let z : min (root N (rows-of s₁ n) ft) (root N (rows-of s₁ n) ge) ≡ min (root N R ft) (root N R ge) = rw (first-done .same-root ft (d .ft-used), first-done .same-root ge (d .ge-used)) in
         (omega arith, record { live = k .live; left = first-done .still ft (d .ft-used); right = first-done .still ge (d .ge-used) })
 
@@ -127,7 +127,7 @@ module _ (N c : ℕ) (s : Slices) (work : List ℕ) (ft fe gt ge : ℕ) (d : Qua
       let R = rows-of s c in
       let m = min (root N R ft) (min (root N R gt) (root N R ge)) in
       let h : min (root N R fe) m ≤ min (root N R fe) (root N R gt) =
-          le-min (min-le-left (root N R fe) m) (omega (arith, min-le-right (root N R fe) m, min-le-right (root N R ft) (min (root N R gt) (root N R ge)), min-le-left (root N R gt) (root N R ge))) in
+      le-min (min-le-left (root N R fe) m) (omega (arith, min-le-right (root N R fe) m, min-le-right (root N R ft) (min (root N R gt) (root N R ge)), min-le-left (root N R gt) (root N R ge))) in
       (omega arith, record { live = d .live; left = d .fe-used; right = d .gt-used })
 
   pub then-full : {s₁ : Slices} {work₁ : List ℕ} → Kept N (product N fe gt) Full c s s₁ work work₁ → Kept N (then-steps N ft fe gt ge) Full c s s₁ work work₁

@@ -4,7 +4,11 @@ use mathlib.Core.Path.{_≡_, refl, sym, ap, _∙_}
 use mathlib.Core.Bool.{_&&_, xor}
 use native.Mathlib.Omega.{arith}
 use native.Mathlib.Nat.{le-min, min-le-left, min-le-right}
-use Rattle.steps.specs.Rows.{Rows, next, row, root, value}
+use mathlib.Core.List.{List}
+use Rattle.steps.specs.Rows.{Rows, next, row, root, value, Assignment}
+use Rattle.steps.specs.Table.{Slices, rows-of}
+use Rattle.steps.proofs.Table.{rows-of-next}
+use Rattle.table.specs.Memory.{Live}
 use Rattle.steps.specs.Sound.{Sound}
 use Rattle.steps.specs.Steps.{Steps, answer, _>>=_, make, sum, product}
 use Rattle.steps.proofs.Rows.{Cut, node}
@@ -12,7 +16,7 @@ use Rattle.steps.proofs.Ok.{Ok}
 use Rattle.steps.proofs.Roots.{node-below, cut-absent}
 use Rattle.steps.proofs.Product.{ok-products, then-step-ok, absent-right, absent-left, products-left-0, products-left-1, products-right-0, products-right-1, products-same}
 use Rattle.steps.proofs.Laws.{product-less, product-more, product-both}
-use Rattle.steps.proofs.Theorems.{Right, right}
+use Rattle.steps.proofs.Theorems.{Right, right, value-of-product}
 use Rattle.sums.specs.Inner.{Apart, Split, less, more, both}
 use Rattle.sums.proofs.Splits.{At, split-at}
 use Rattle.products.specs.Inner.{Proper, then-steps}
@@ -56,3 +60,8 @@ module _ (N : ℕ) (R : Rows) (s : Sound N R) (f g : ℕ) (uf : f < next R) (ug 
       let at = split-at N R s f g uf ug (apart a) p in
       let c = cuts p in
       right (then-step-ok N (suc N) (suc N) (ok-products N (suc N)) (omega arith) (omega arith) s (at .below) (c .0) (c .1))
+
+-- the value of a product
+pub product-law : (N c : ℕ) (s : Slices) (work : List ℕ) (f g : ℕ) → Live N c s work → f < c + 2 → g < c + 2 → (a : Assignment)
+    → value a (product N f g (rows-of s c) .rows) (product N f g (rows-of s c) .num) ≡ value a (rows-of s c) f && value a (rows-of s c) g
+product-law N c s work f g d uf ug a = value-of-product N (rows-of s c) (d .sound) f g (omega (arith, rows-of-next s c)) (omega (arith, rows-of-next s c)) a

@@ -17,7 +17,17 @@ ghost use Rattle.sums.specs.Inner.{Pair};
 ghost use Rattle.products.specs.Inner.{Proper, Three, Rest, Quad, three-steps, rest-steps, then-steps};
 
 // The sum of the first two, and that plus the third.
-fn sum_three(vs: &mut [u16], ts: &mut [u16], es: &mut [u16], work: &mut [u64], n: u16, count: usize, a: Row, b: Row, c: Row) -> Made
+fn sum_three(
+    vs: &mut [u16],
+    ts: &mut [u16],
+    es: &mut [u16],
+    work: &mut [u64],
+    n: u16,
+    count: usize,
+    a: Row,
+    b: Row,
+    c: Row,
+) -> Made
     requires { ⌜ Three n count (slices (now vs) (now ts) (now es)) (now work) (a .0) (b .0) (c .0) ⌝ }
     ensures { λ r. ⌜ Kept n (three-steps n (a .0) (b .0) (c .0)) r count (slices (now (vs .entry)) (now (ts .entry)) (now (es .entry))) (slices (now (vs .exit)) (now (ts .exit)) (now (es .exit))) (now (work .entry)) (now (work .exit)) ⌝ }
 {
@@ -28,7 +38,16 @@ fn sum_three(vs: &mut [u16], ts: &mut [u16], es: &mut [u16], work: &mut [u64], n
 }
 
 // The product f·g.
-pub fn product(vs: &mut [u16], ts: &mut [u16], es: &mut [u16], work: &mut [u64], n: u16, count: usize, f: Row, g: Row) -> Made
+pub fn product(
+    vs: &mut [u16],
+    ts: &mut [u16],
+    es: &mut [u16],
+    work: &mut [u64],
+    n: u16,
+    count: usize,
+    f: Row,
+    g: Row,
+) -> Made
     requires { ⌜ Pair n count (slices (now vs) (now ts) (now es)) (now work) (f .0) (g .0) ⌝ }
     ensures { λ r. ⌜ Kept n (product n (f .0) (g .0)) r count (slices (now (vs .entry)) (now (ts .entry)) (now (es .entry))) (slices (now (vs .exit)) (now (ts .exit)) (now (es .exit))) (now (work .entry)) (now (work .exit)) ⌝ }
 {
@@ -59,7 +78,16 @@ pub fn product(vs: &mut [u16], ts: &mut [u16], es: &mut [u16], work: &mut [u64],
 }
 
 // The same where no constant is among the numbers and they are not equal: then-part, else-part, make.
-fn product_deep(vs: &mut [u16], ts: &mut [u16], es: &mut [u16], work: &mut [u64], n: u16, count: usize, f: Row, g: Row) -> Made
+fn product_deep(
+    vs: &mut [u16],
+    ts: &mut [u16],
+    es: &mut [u16],
+    work: &mut [u64],
+    n: u16,
+    count: usize,
+    f: Row,
+    g: Row,
+) -> Made
     requires { ⌜ Pair n count (slices (now vs) (now ts) (now es)) (now work) (f .0) (g .0) ⌝ }
     requires { ⌜ Proper (f .0) (g .0) ⌝ }
     ensures { λ r. ⌜ Kept n (product n (f .0) (g .0)) r count (slices (now (vs .entry)) (now (ts .entry)) (now (es .entry))) (slices (now (vs .exit)) (now (ts .exit)) (now (es .exit))) (now (work .entry)) (now (work .exit)) ⌝ }
@@ -80,7 +108,18 @@ fn product_deep(vs: &mut [u16], ts: &mut [u16], es: &mut [u16], work: &mut [u64]
 }
 
 // The then-part: else(f)·then(g), then(f)·then(g), then(f)·else(g), and their sums.
-fn then_part(vs: &mut [u16], ts: &mut [u16], es: &mut [u16], work: &mut [u64], n: u16, count: usize, ft: Row, fe: Row, gt: Row, ge: Row) -> Made
+fn then_part(
+    vs: &mut [u16],
+    ts: &mut [u16],
+    es: &mut [u16],
+    work: &mut [u64],
+    n: u16,
+    count: usize,
+    ft: Row,
+    fe: Row,
+    gt: Row,
+    ge: Row,
+) -> Made
     requires { ⌜ Quad n count (slices (now vs) (now ts) (now es)) (now work) (ft .0) (fe .0) (gt .0) (ge .0) ⌝ }
     ensures { λ r. ⌜ Kept n (then-steps n (ft .0) (fe .0) (gt .0) (ge .0)) r count (slices (now (vs .entry)) (now (ts .entry)) (now (es .entry))) (slices (now (vs .exit)) (now (ts .exit)) (now (es .exit))) (now (work .entry)) (now (work .exit)) ⌝ }
 {
@@ -91,7 +130,18 @@ fn then_part(vs: &mut [u16], ts: &mut [u16], es: &mut [u16], work: &mut [u64], n
 }
 
 // The rest of the then-part, after its first product.
-fn then_rest(vs: &mut [u16], ts: &mut [u16], es: &mut [u16], work: &mut [u64], n: u16, count: usize, a: Row, ft: Row, gt: Row, ge: Row) -> Made
+fn then_rest(
+    vs: &mut [u16],
+    ts: &mut [u16],
+    es: &mut [u16],
+    work: &mut [u64],
+    n: u16,
+    count: usize,
+    a: Row,
+    ft: Row,
+    gt: Row,
+    ge: Row,
+) -> Made
     requires { ⌜ Rest n count (slices (now vs) (now ts) (now es)) (now work) (a .0) (ft .0) (gt .0) (ge .0) ⌝ }
     ensures { λ r. ⌜ Kept n (rest-steps n (a .0) (ft .0) (gt .0) (ge .0)) r count (slices (now (vs .entry)) (now (ts .entry)) (now (es .entry))) (slices (now (vs .exit)) (now (ts .exit)) (now (es .exit))) (now (work .entry)) (now (work .exit)) ⌝ }
 {

@@ -1,0 +1,41 @@
+use Rattle.table.proofs.Endings.{zeros-left}
+use borrow.Author.Needs.{needs}
+use Rattle.products.proofs.product.Statement.{statement}
+use Rattle.products.proofs.product.Tie as tie
+use Rattle.products.proofs.product.Reads as reads
+use Rattle.products.proofs.product.Lts as lts
+use Rattle.products.proofs.product_checked.Reads as product-checked-reads
+use Rattle.table.proofs.clear.zero_work.Reads as zero-work-reads
+
+product-checked-requires : tie.Need-product-checked-requires
+product-checked-requires c κs = search needs
+
+zero-work-requires : tie.Need-zero-work-requires
+zero-work-requires c κs = search needs
+
+same-length : tie.Need-same-length
+same-length c = search needs
+
+same-length-2 : tie.Need-same-length-2
+same-length-2 c = search needs
+
+same-length-3 : tie.Need-same-length-3
+same-length-3 c = search needs
+
+same-length-4 : tie.Need-same-length-4
+same-length-4 c = search needs
+
+returns : tie.Need-returns
+returns c = let c12 = c .before .before .before .before .before .before .before .before .before .before .before .before in let c21 = c12 .before .before .before .before .before .before .before .before .before in ((c12 .product-checked .ensures), zeros-left (c21 .args .work .now) (c12 .product-checked .last .1 .1 .1 .1 .1 .0) (c12 .product-checked .kept .1 .1 .1 .1 .1 .0) (c .before .before .zero-work .ensures))
+
+pub product-spec : {M : Type 1} → statement M
+product-spec =
+    tie.close
+    (tie.spec
+    product-checked-requires
+    zero-work-requires
+    same-length
+    same-length-2
+    same-length-3
+    same-length-4
+    returns)
