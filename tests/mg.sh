@@ -1,6 +1,6 @@
 #!/usr/bin/env bash
 # The calls from C: the header, the library, the console over it, and the comparison with the independent second program, in which each case is a test.
-# tests/mg.sh compares 10,000 scripts and 10,000 texts by a fixed seed and as many by fresh ones; with --long it compares 200,000 of each.
+# Scripts and texts are compared in portions of 5,000: two by fixed seeds, two by fresh ones; with --long 38 by fresh ones, 200,000 cases of each kind.
 set -u
 cd "$(dirname "$0")/.." || exit 2
 room=$(mktemp -d)
@@ -8,7 +8,7 @@ trap 'rm -rf "$room"' EXIT
 passed=0
 failed=0
 
-missing="equation normal_form circuit" # the calls that the library does not have yet
+missing="equation normal_form circuit" # the calls that the library does not have yet: cases end before them
 
 # what NAME COMMAND..: counts one test
 what() {
@@ -54,14 +54,16 @@ by_kit() {
 }
 build_console() { if [ "$(uname -m)" = x86_64 ]; then by_gcc; else by_kit; fi; }
 
+# compared CONSOLE KIND..: compares a console with the second program
+compared() { tests/compare "$@" ${missing:+--without "${missing// /,}"}; }
+
 # against KIND..: adds the count of one comparison
 against() {
     local said
     echo "mg: $*"
-    tests/compare "$room/console" "$@" ${missing:+--without "${missing// /,}"} >"$room/said" 2>&1
-    said=$(grep -E '^[0-9]+ passed, [0-9]+ failed$' "$room/said" | tail -n 1)
-    if [ -z "$said" ]; then said="0 passed, 1 failed"; fi
+    compared "$room/console" "$@" >"$room/said" 2>&1 || echo "mg: the comparison failed"
     cat "$room/said"
+    said=$(grep -E '^[1-9][0-9]* passed, [0-9]+ failed$' "$room/said" || echo "0 passed, 1 failed")
     passed=$((passed + ${said%% passed*}))
     said=${said#*, }
     failed=$((failed + ${said%% failed*}))
@@ -73,8 +75,14 @@ what "the header takes a variable" variable_of mg_var
 what "the header takes no number for a variable" mixed_up
 what "the library" rt staticlib mg
 echo '#include <stdlib.h>' >"$room/missing.c"
-for call in $missing; do printf 'void mg_%s(void);\nvoid mg_%s(void) { abort(); }\n' "$call" "$call"; done >>"$room/missing.c"
+for call in ${missing:-}; do printf 'void mg_%s(void);\nvoid mg_%s(void) { abort(); }\n' "$call" "$call"; done >>"$room/missing.c"
 what "the console" build_console
+
+# a console that gives refusal 7 as 0 is found out
+printf '#!/bin/sh\n"%s" | sed "s/ -> 7 / -> 0 /"\n' "$room/console" >"$room/liar"
+chmod +x "$room/liar"
+caught() { compared "$room/liar" scripts 1 500 | grep '^console: call .* -> 0 '; }
+what "a refusal 7 given as 0 is found" caught
 
 against paper
 fresh=$(($(date +%s) * 1000))
