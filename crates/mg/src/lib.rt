@@ -27,7 +27,10 @@ pub extern "C" fn mg_variable(
     row: &mut u16,
     used: &mut usize,
 ) -> u32
-    ensures { λ k. ⌜ Shows show-made (λ r. variable-call n count (slices (now (vs .entry)) (now (ts .entry)) (now (es .entry))) v ≡ left r (slices (now (vs .exit)) (now (ts .exit)) (now (es .exit)))) k (now (row .entry), now (used .entry)) (now (row .exit), now (used .exit)) ⌝ }
+    ensures { λ k. ⌜ Shows show-made
+        (λ r. variable-call n count (slices (now (vs .entry)) (now (ts .entry)) (now (es .entry))) v ≡
+        left r (slices (now (vs .exit)) (now (ts .exit)) (now (es .exit))))
+        k (now (row .entry), now (used .entry)) (now (row .exit), now (used .exit)) ⌝ }
     ensures { λ _. ⌜ now (work .exit) ≡ replicate (length (now (work .entry))) 0 ⌝ }
 {
     let r = numbers::variable(n, vs, ts, es, count, work, Var(v));
@@ -48,7 +51,11 @@ pub extern "C" fn mg_sum(
     row: &mut u16,
     used: &mut usize,
 ) -> u32
-    ensures { λ k. ⌜ Shows show-made (λ r. Answered xor (sum-call n count (slices (now (vs .entry)) (now (ts .entry)) (now (es .entry))) f g) r count (slices (now (vs .entry)) (now (ts .entry)) (now (es .entry))) (slices (now (vs .exit)) (now (ts .exit)) (now (es .exit))) f g) k (now (row .entry), now (used .entry)) (now (row .exit), now (used .exit)) ⌝ }
+    ensures { λ k. ⌜ Shows show-made
+        (λ r. Answered xor (sum-call n count (slices (now (vs .entry)) (now (ts .entry)) (now (es .entry))) f g) r count
+        (slices (now (vs .entry)) (now (ts .entry)) (now (es .entry)))
+        (slices (now (vs .exit)) (now (ts .exit)) (now (es .exit))) f g)
+        k (now (row .entry), now (used .entry)) (now (row .exit), now (used .exit)) ⌝ }
     ensures { λ _. ⌜ now (work .exit) ≡ replicate (length (now (work .entry))) 0 ⌝ }
 {
     let r = sums::sum(n, vs, ts, es, count, work, Row(f), Row(g));
@@ -69,7 +76,11 @@ pub extern "C" fn mg_product(
     row: &mut u16,
     used: &mut usize,
 ) -> u32
-    ensures { λ k. ⌜ Shows show-made (λ r. Answered _&&_ (product-call n count (slices (now (vs .entry)) (now (ts .entry)) (now (es .entry))) f g) r count (slices (now (vs .entry)) (now (ts .entry)) (now (es .entry))) (slices (now (vs .exit)) (now (ts .exit)) (now (es .exit))) f g) k (now (row .entry), now (used .entry)) (now (row .exit), now (used .exit)) ⌝ }
+    ensures { λ k. ⌜ Shows show-made
+        (λ r. Answered _&&_ (product-call n count (slices (now (vs .entry)) (now (ts .entry)) (now (es .entry))) f g) r count
+        (slices (now (vs .entry)) (now (ts .entry)) (now (es .entry)))
+        (slices (now (vs .exit)) (now (ts .exit)) (now (es .exit))) f g)
+        k (now (row .entry), now (used .entry)) (now (row .exit), now (used .exit)) ⌝ }
     ensures { λ _. ⌜ now (work .exit) ≡ replicate (length (now (work .entry))) 0 ⌝ }
 {
     let r = products::product(n, vs, ts, es, count, work, Row(f), Row(g));
@@ -89,7 +100,9 @@ pub extern "C" fn mg_value(
     bytes: &[u8],
     value: &mut u8,
 ) -> u32
-    ensures { λ k. ⌜ Shows show-value (λ r. value-call n count (slices (now (vs .entry)) (now (ts .entry)) (now (es .entry))) f (now (bytes .entry)) ≡ r) k (now (value .entry)) (now (value .exit)) ⌝ }
+    ensures { λ k. ⌜ Shows show-value
+        (λ r. value-call n count (slices (now (vs .entry)) (now (ts .entry)) (now (es .entry))) f (now (bytes .entry)) ≡ r)
+        k (now (value .entry)) (now (value .exit)) ⌝ }
     ensures { λ _. ⌜ now (work .exit) ≡ replicate (length (now (work .entry))) 0 ⌝ }
 {
     let r = numbers::value(n, vs, ts, es, count, work, Row(f), bytes);
@@ -108,7 +121,10 @@ pub extern "C" fn mg_one(
     f: u16,
     bytes: &mut [u8],
 ) -> u32
-    ensures { λ k. ⌜ Shows show-one (λ r. (one-call n count (slices (now (vs .entry)) (now (ts .entry)) (now (es .entry))) f (now (bytes .entry)) ≡ one-left r (now (bytes .exit))) × OneMeans r count (slices (now (vs .entry)) (now (ts .entry)) (now (es .entry))) f (now (bytes .exit))) k tt tt ⌝ }
+    ensures { λ k. ⌜ Shows show-one
+        (λ r. (one-call n count (slices (now (vs .entry)) (now (ts .entry)) (now (es .entry))) f (now (bytes .entry)) ≡ one-left r (now (bytes .exit)))
+        × OneMeans r count (slices (now (vs .entry)) (now (ts .entry)) (now (es .entry))) f (now (bytes .exit)))
+        k tt tt ⌝ }
     ensures { λ _. ⌜ now (work .exit) ≡ replicate (length (now (work .entry))) 0 ⌝ }
 {
     let r = numbers::one(n, vs, ts, es, count, work, Row(f), bytes);
@@ -118,7 +134,9 @@ pub extern "C" fn mg_one(
 // I and O of a circuit's text.
 #[no_mangle]
 pub extern "C" fn mg_text(text: &[u8], inputs: &mut usize, outputs: &mut usize) -> u32
-    ensures { λ k. ⌜ Shows show-counts (λ r. r ≡ textCall (now (text .entry))) k (now (inputs .entry), now (outputs .entry)) (now (inputs .exit), now (outputs .exit)) ⌝ }
+    ensures { λ k. ⌜ Shows show-counts
+        (λ r. r ≡ textCall (now (text .entry)))
+        k (now (inputs .entry), now (outputs .entry)) (now (inputs .exit), now (outputs .exit)) ⌝ }
 {
     let r = aiger::text(text);
     show::counts(r, inputs, outputs)
