@@ -67,14 +67,13 @@ impl Case {
         self.set(Command::Else(Spec::new(els, column(|row| row.els), free_rows(rng))));
     }
 
-    /// Lends a working slice of any length with anything in it.
+    /// Lends a working slice of any length with anything in it; a long one more often where the table is large.
     pub fn work(&mut self, rng: &mut Rng) {
-        let short = [0, 1, 2, 7, 63, 64, 65];
-        let length = match rng.below(40) {
-            0 => 20_000,
-            1 => 1_000,
-            2 => rng.between(66, 300),
-            _ => rng.pick(&short),
+        let large = self.lent.table.var.len() > 64;
+        let length = if rng.chance(1, if large { 2 } else { 3 }) {
+            long_work(large, rng)
+        } else {
+            rng.pick(&[0, 1, 2, 7, 63, 64, 65])
         };
         let first = if rng.chance(1, 3) { plausible_words(length.min(65), rng) } else { vec![] };
         let rest = match rng.below(4) {
@@ -100,6 +99,16 @@ fn free_rows(rng: &mut Rng) -> Rest {
         0 => Rest::Zeros,
         1 => Rest::Equal(rng.below(70_000).min(65_535) as u64),
         _ => Rest::Garbage(rng.bits() >> 40),
+    }
+}
+
+/// The length of a long working slice: any, or a sum of two powers of two or one less.
+fn long_work(large: bool, rng: &mut Rng) -> usize {
+    match rng.below(4) {
+        0 if !large => rng.between(66, 300),
+        0 | 1 => rng.between(300, 4_000),
+        2 => rng.between(4_000, 40_000),
+        _ => (1 << rng.between(6, 15)) + (1 << rng.between(6, 14)) - rng.below(2),
     }
 }
 

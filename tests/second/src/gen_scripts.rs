@@ -112,7 +112,8 @@ fn add_calls(case: &mut Case, count: usize, rng: &mut Rng) {
 fn some_room(in_use: usize, rng: &mut Rng) -> usize {
     match rng.below(60) {
         0 => rng.pick(&[4_095, 4_096, 4_097, 8_191, 8_192]),
-        1..=10 => in_use + rng.below(3),
+        1 => rng.between(in_use, 2_000),
+        2..=10 => in_use + rng.below(3),
         11..=20 => in_use + rng.below(10),
         _ => in_use + rng.between(10, 40),
     }
@@ -136,8 +137,8 @@ fn deep(case: &mut Case, rng: &mut Rng) {
     let length = rng.between(30, 150);
     let rows = sound_rows(n, length, rng);
     case.set(Command::Ring(n));
-    let room = rows.len() + rng.between(50, 400);
-    case.table(&rows, room, rng);
+    let more = if rng.chance(1, 4) { rng.between(400, 4_000) } else { rng.between(50, 400) };
+    case.table(&rows, rows.len() + more, rng);
     let count = rng.between(1, 3);
     add_calls(case, count, rng);
 }

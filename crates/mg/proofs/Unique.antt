@@ -1,0 +1,51 @@
+-- "Uniqueness is proved: any two outcomes a contract allows coincide", as C sees them: the number returned, the out-parameters and every lent slice.
+-- Assumes nothing.
+use Prim.Native.Nat.{ℕ}
+use mathlib.Core.Path.{_≡_, sym, ap, _∙_}
+use mathlib.Core.Bool.{Bool}
+use mathlib.Core.List.{List}
+use Rattle.steps.specs.Table.{Slices}
+use Rattle.table.specs.declared.Answer.{Answer}
+use Rattle.table.specs.Calls.{Left, left}
+use Rattle.numbers.specs.Calls.{variable-call, value-call, one-call, OneLeft, one-left, OneMeans}
+use Rattle.sums.specs.Calls.{Answered}
+use Rattle.aiger.specs.Answers.{textCall}
+use Rattle.mg.specs.Seen.{Seen, seen, Shows, show-made, show-value, show-one, show-counts}
+
+-- answers that coincide are shown alike
+module _ {R A : Type 0} {show : R → A → Seen A} {P P′ : R → Type 0} {k k′ : ℕ} {held outs outs′ : A} (a : Shows show P k held outs) (b : Shows show P′ k′ held outs′) where
+  shown-alike : a .answer ≡ b .answer → seen k outs ≡ seen k′ outs′
+  shown-alike e = sym (a .is) ∙ ap (λ (r : R). show r held) e ∙ b .is
+
+module _ {k k′ : ℕ} {held outs outs′ : ℕ × ℕ} where
+  made-unique : {P P′ : Answer → Type 0} (call : Left) (s s′ : Slices) → ((r : Answer) → P r → call ≡ left r s) → ((r : Answer) → P′ r → call ≡ left r s′)
+      → Shows show-made P k held outs → Shows show-made P′ k′ held outs′ → (seen k outs ≡ seen k′ outs′) × (s ≡ s′)
+  made-unique call s s′ p p′ a b =
+      let e : left (a .answer) s ≡ left (b .answer) s′ = sym (p (a .answer) (a .promised)) ∙ p′ (b .answer) (b .promised) in
+      (shown-alike a b (ap (λ (x : Left). x .answer) e), ap (λ (x : Left). x .table) e)
+
+  pub variable-unique : (N c : ℕ) (s t t′ : Slices) (v : ℕ)
+      → Shows show-made (λ r. variable-call N c s v ≡ left r t) k held outs → Shows show-made (λ r. variable-call N c s v ≡ left r t′) k′ held outs′
+      → (seen k outs ≡ seen k′ outs′) × (t ≡ t′)
+  variable-unique N c s t t′ v a b = made-unique (variable-call N c s v) t t′ (λ r e. e) (λ r e. e) a b
+
+  -- the sum and the product
+  pub pair-unique : (op : Bool → Bool → Bool) (call : Left) (c : ℕ) (s t t′ : Slices) (f g : ℕ)
+      → Shows show-made (λ r. Answered op call r c s t f g) k held outs → Shows show-made (λ r. Answered op call r c s t′ f g) k′ held outs′
+      → (seen k outs ≡ seen k′ outs′) × (t ≡ t′)
+  pair-unique op call c s t t′ f g a b = made-unique call t t′ (λ r p. p .is) (λ r p. p .is) a b
+
+  pub text-unique : (text : List ℕ) → Shows show-counts (λ r. r ≡ textCall text) k held outs → Shows show-counts (λ r. r ≡ textCall text) k′ held outs′ → seen k outs ≡ seen k′ outs′
+  text-unique text a b = shown-alike a b (a .promised ∙ sym (b .promised))
+
+module _ {k k′ : ℕ} (N c : ℕ) (s : Slices) (f : ℕ) (bytes : List ℕ) where
+  pub value-unique : {held out out′ : ℕ} → Shows show-value (λ r. value-call N c s f bytes ≡ r) k held out → Shows show-value (λ r. value-call N c s f bytes ≡ r) k′ held out′ → seen k out ≡ seen k′ out′
+  value-unique a b = shown-alike a b (sym (a .promised) ∙ b .promised)
+
+  pub one-unique : (t t′ : List ℕ)
+      → Shows show-one (λ r. (one-call N c s f bytes ≡ one-left r t) × OneMeans r c s f t) k tt tt
+      → Shows show-one (λ r. (one-call N c s f bytes ≡ one-left r t′) × OneMeans r c s f t′) k′ tt tt
+      → (k ≡ k′) × (t ≡ t′)
+  one-unique t t′ a b =
+      let e : one-left (a .answer) t ≡ one-left (b .answer) t′ = sym (a .promised .0) ∙ b .promised .0 in
+      (ap (λ (x : Seen (Unit {0})). x .returned) (shown-alike a b (ap (λ (x : OneLeft). x .answer) e)), ap (λ (x : OneLeft). x .bytes) e)

@@ -1,0 +1,143 @@
+// The calls as C sees them, declared in include/mg.h: each makes the public call of its name and shows the answer. The promise is the public call's own.
+mod show;
+
+use table::Row;
+use table::Var;
+ghost use mathlib.Core.Path.{_≡_};
+ghost use mathlib.Core.Bool.{xor, _&&_};
+ghost use lib.ListN.{length, replicate};
+ghost use Rattle.steps.specs.Table.{slices};
+ghost use Rattle.table.specs.Calls.{left};
+ghost use Rattle.numbers.specs.Calls.{variable-call, value-call, one-call, one-left, OneMeans};
+ghost use Rattle.sums.specs.Calls.{sum-call, Answered};
+ghost use Rattle.products.specs.Calls.{product-call};
+ghost use Rattle.aiger.specs.Answers.{textCall};
+ghost use Rattle.mg.specs.Seen.{Shows, show-made, show-value, show-one, show-counts};
+
+// The variable x_v.
+#[no_mangle]
+pub extern "C" fn mg_variable(
+    n: usize,
+    vs: &mut [u16],
+    ts: &mut [u16],
+    es: &mut [u16],
+    count: usize,
+    work: &mut [u64],
+    v: u16,
+    row: &mut u16,
+    used: &mut usize,
+) -> u32
+    ensures { λ k. ⌜ Shows show-made
+        (λ r. variable-call n count (slices (now (vs .entry)) (now (ts .entry)) (now (es .entry))) v ≡
+        left r (slices (now (vs .exit)) (now (ts .exit)) (now (es .exit))))
+        k (now (row .entry), now (used .entry)) (now (row .exit), now (used .exit)) ⌝ }
+    ensures { λ _. ⌜ now (work .exit) ≡ replicate (length (now (work .entry))) 0 ⌝ }
+{
+    let r = numbers::variable(n, vs, ts, es, count, work, Var(v));
+    show::made(r, row, used)
+}
+
+// The sum f + g.
+#[no_mangle]
+pub extern "C" fn mg_sum(
+    n: usize,
+    vs: &mut [u16],
+    ts: &mut [u16],
+    es: &mut [u16],
+    count: usize,
+    work: &mut [u64],
+    f: u16,
+    g: u16,
+    row: &mut u16,
+    used: &mut usize,
+) -> u32
+    ensures { λ k. ⌜ Shows show-made
+        (λ r. Answered xor (sum-call n count (slices (now (vs .entry)) (now (ts .entry)) (now (es .entry))) f g) r count
+        (slices (now (vs .entry)) (now (ts .entry)) (now (es .entry)))
+        (slices (now (vs .exit)) (now (ts .exit)) (now (es .exit))) f g)
+        k (now (row .entry), now (used .entry)) (now (row .exit), now (used .exit)) ⌝ }
+    ensures { λ _. ⌜ now (work .exit) ≡ replicate (length (now (work .entry))) 0 ⌝ }
+{
+    let r = sums::sum(n, vs, ts, es, count, work, Row(f), Row(g));
+    show::made(r, row, used)
+}
+
+// The product f·g.
+#[no_mangle]
+pub extern "C" fn mg_product(
+    n: usize,
+    vs: &mut [u16],
+    ts: &mut [u16],
+    es: &mut [u16],
+    count: usize,
+    work: &mut [u64],
+    f: u16,
+    g: u16,
+    row: &mut u16,
+    used: &mut usize,
+) -> u32
+    ensures { λ k. ⌜ Shows show-made
+        (λ r. Answered _&&_ (product-call n count (slices (now (vs .entry)) (now (ts .entry)) (now (es .entry))) f g) r count
+        (slices (now (vs .entry)) (now (ts .entry)) (now (es .entry)))
+        (slices (now (vs .exit)) (now (ts .exit)) (now (es .exit))) f g)
+        k (now (row .entry), now (used .entry)) (now (row .exit), now (used .exit)) ⌝ }
+    ensures { λ _. ⌜ now (work .exit) ≡ replicate (length (now (work .entry))) 0 ⌝ }
+{
+    let r = products::product(n, vs, ts, es, count, work, Row(f), Row(g));
+    show::made(r, row, used)
+}
+
+// The value of f at an assignment.
+#[no_mangle]
+pub extern "C" fn mg_value(
+    n: usize,
+    vs: &[u16],
+    ts: &[u16],
+    es: &[u16],
+    count: usize,
+    work: &mut [u64],
+    f: u16,
+    bytes: &[u8],
+    value: &mut u8,
+) -> u32
+    ensures { λ k. ⌜ Shows show-value
+        (λ r. value-call n count (slices (now (vs .entry)) (now (ts .entry)) (now (es .entry))) f (now (bytes .entry)) ≡ r)
+        k (now (value .entry)) (now (value .exit)) ⌝ }
+    ensures { λ _. ⌜ now (work .exit) ≡ replicate (length (now (work .entry))) 0 ⌝ }
+{
+    let r = numbers::value(n, vs, ts, es, count, work, Row(f), bytes);
+    show::value(r, value)
+}
+
+// A one of f: the least.
+#[no_mangle]
+pub extern "C" fn mg_one(
+    n: usize,
+    vs: &[u16],
+    ts: &[u16],
+    es: &[u16],
+    count: usize,
+    work: &mut [u64],
+    f: u16,
+    bytes: &mut [u8],
+) -> u32
+    ensures { λ k. ⌜ Shows show-one
+        (λ r. (one-call n count (slices (now (vs .entry)) (now (ts .entry)) (now (es .entry))) f (now (bytes .entry)) ≡ one-left r (now (bytes .exit)))
+        × OneMeans r count (slices (now (vs .entry)) (now (ts .entry)) (now (es .entry))) f (now (bytes .exit)))
+        k tt tt ⌝ }
+    ensures { λ _. ⌜ now (work .exit) ≡ replicate (length (now (work .entry))) 0 ⌝ }
+{
+    let r = numbers::one(n, vs, ts, es, count, work, Row(f), bytes);
+    show::one(r)
+}
+
+// I and O of a circuit's text.
+#[no_mangle]
+pub extern "C" fn mg_text(text: &[u8], inputs: &mut usize, outputs: &mut usize) -> u32
+    ensures { λ k. ⌜ Shows show-counts
+        (λ r. r ≡ textCall (now (text .entry)))
+        k (now (inputs .entry), now (outputs .entry)) (now (inputs .exit), now (outputs .exit)) ⌝ }
+{
+    let r = aiger::text(text);
+    show::counts(r, inputs, outputs)
+}

@@ -1,0 +1,97 @@
+#!/usr/bin/env bash
+# The calls from C: the header, the library, the console over it, and the comparison with the independent second program, in which each case is a test.
+# Scripts and texts are compared in portions of 5,000: two by fixed seeds, two by fresh ones; with --long 38 by fresh ones, 200,000 cases of each kind.
+set -u
+cd "$(dirname "$0")/.." || exit 2
+room=$(mktemp -d)
+trap 'rm -rf "$room"' EXIT
+passed=0
+failed=0
+
+missing="equation normal_form circuit" # the calls that the library does not have yet: cases end before them
+
+# what NAME COMMAND..: counts one test
+what() {
+    local name=$1
+    shift
+    if "$@" >"$room/said" 2>&1; then
+        passed=$((passed + 1))
+    else
+        failed=$((failed + 1))
+        echo "mg: $name"
+        tail -n 20 "$room/said"
+    fi
+}
+
+# compiles LANGUAGE.. < CODE: whether a program that includes the header is compiled without a warning
+compiles() { "$@" -Wall -Wextra -pedantic -Werror -Iinclude -fsyntax-only -; }
+includes() { echo '#include "mg.h"' | compiles "$@"; }
+
+# asks for x_v, where v is of the type TYPE
+variable_of() {
+    printf '#include "mg.h"\nuint32_t f(uint16_t *r, uint64_t *w, %s v, mg_row *k, size_t *n) { return mg_variable(1, r, 0, r, 0, r, 0, 0, w, 0, v, k, n); }\n' "$1" |
+        compiles gcc -std=c99 -x c
+}
+mixed_up() { ! variable_of mg_row && ! variable_of uint16_t; }
+
+# The library is compiled for x86-64. Elsewhere the console is compiled and linked by the kit's own tools, and run under its emulator, as rt does.
+flags=(-std=c99 -O2 -Wall -Wextra -pedantic -Werror -Iinclude)
+library=target/staticlib/libmg.a
+by_gcc() { gcc "${flags[@]}" tests/console.c "$room/missing.c" "$library" -o "$room/console"; }
+by_kit() {
+    local machine kit tools file
+    machine=$(uname -m)
+    kit=${RATTLE_HOME:-$(dirname "$(dirname "$(readlink -f "$(command -v rt)")")")}
+    tools=$kit/on/$machine/toolchain
+    for file in tests/console.c "$room/missing.c"; do
+        "$tools/bin/clang" --target=x86_64-linux-gnu "${flags[@]}" -fPIC -isystem "$(gcc -print-file-name=include)" -isystem /usr/include \
+            -isystem "/usr/include/$(gcc -dumpmachine)" -c "$file" -o "$room/$(basename "$file" .c).o" || return
+    done
+    "$kit/on/$machine/bin/rattle-link" --target x86_64-unknown-linux-gnu --toolchain "$tools" -o "$room/program" "$room/console.o" "$room/missing.o" "$library" || return
+    printf '#!/bin/sh\nexec %s "%s/lib/ld-linux-x86-64.so.2" --library-path "%s/lib" "%s/program"\n' \
+        "$(ls "$tools/bin/qemu-x86_64" 2>/dev/null)" "$tools" "$tools" "$room" >"$room/console"
+    chmod +x "$room/console"
+}
+build_console() { if [ "$(uname -m)" = x86_64 ]; then by_gcc; else by_kit; fi; }
+
+# compared CONSOLE KIND..: compares a console with the second program
+compared() { tests/compare "$@" ${missing:+--without "${missing// /,}"}; }
+
+# against KIND..: adds the count of one comparison
+against() {
+    local said
+    echo "mg: $*"
+    compared "$room/console" "$@" >"$room/said" 2>&1 || echo "mg: the comparison failed"
+    cat "$room/said"
+    said=$(grep -E '^[1-9][0-9]* passed, [0-9]+ failed$' "$room/said" || echo "0 passed, 1 failed")
+    passed=$((passed + ${said%% passed*}))
+    said=${said#*, }
+    failed=$((failed + ${said%% failed*}))
+}
+
+what "the header is C99" includes gcc -std=c99 -x c
+what "the header is C++" includes g++ -std=c++11 -x c++
+what "the header takes a variable" variable_of mg_var
+what "the header takes no number for a variable" mixed_up
+what "the library" rt staticlib mg
+echo '#include <stdlib.h>' >"$room/missing.c"
+for call in ${missing:-}; do printf 'void mg_%s(void);\nvoid mg_%s(void) { abort(); }\n' "$call" "$call"; done >>"$room/missing.c"
+what "the console" build_console
+
+# a console that gives refusal 7 as 0 is found out
+printf '#!/bin/sh\n"%s" | sed "s/ -> 7 / -> 0 /"\n' "$room/console" >"$room/liar"
+chmod +x "$room/liar"
+caught() { compared "$room/liar" scripts 1 500 | grep '^console: call .* -> 0 '; }
+what "a refusal 7 given as 0 is found" caught
+
+against paper
+fresh=$(($(date +%s) * 1000))
+if [ "${1:-}" = --long ]; then portions=40; else portions=4; fi
+for ((at = 0; at < portions; at++)); do
+    if [ "$at" -lt 2 ]; then seed=$((at + 1)); else seed=$((fresh + at)); fi
+    against scripts "$seed" 5000
+    against texts "$seed" 5000
+done
+
+echo "$passed passed, $failed failed"
+[ "$failed" -eq 0 ]
