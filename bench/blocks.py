@@ -403,6 +403,11 @@ BENCH = {
 }
 
 
+def names(trial):
+    """The benchmark's blocks; for a trial two of each family."""
+    return [family % size for family, sizes in BENCH.items() for size in (sizes[:2] if trial else sizes)]
+
+
 def write_examples(folder):
     with open(f"{folder}/paper.aag", "w") as file:
         file.write(PAPER)
@@ -431,9 +436,7 @@ def main(words):
         for name in words[2:]:
             write_bench(words[1], name)
     elif words in (["names"], ["names", "trial"]):
-        for family, sizes in BENCH.items():
-            for size in sizes[:2] if "trial" in words else sizes:
-                print(family % size)
+        print("\n".join(names("trial" in words)))
     else:
         sys.exit(__doc__)
 
