@@ -84,7 +84,8 @@ def text(rows, about, options):
             "the library, compiled for this processor from the module that was proved (`bench/native-lib`), with a table of 4,096 rows. The circuit "
             "program is compiled for x86-64 only and would run under an emulator here, so the whole command is a C driver that calls the library."
         )
-    parts = ["# Benchmarks", "Made by `bench/run`. " + ("**A trial: its numbers are no results.**" if options.trial else ""), "\n".join(f"- {line}" for line in about)]
+    trial = " **A trial: its numbers are no results.**" if options.trial else ""
+    parts = ["# Benchmarks", "Made by `bench/run`." + trial, "\n".join(f"- {line}" for line in about)]
     parts += ["![Rows and times against the number of variables](benchmarks.svg)", ABOUT.format(runs=options.runs, own=own)]
     parts += [WHOLE, table(rows, "whole", OTHERS), INSIDE, table(rows, "inside", ["BRiAl", "BuDDy", "ABC sat", "ABC cec", "plain"])]
     return "\n\n".join(part.strip() for part in parts) + "\n"
@@ -158,7 +159,8 @@ def rows_panel(rows):
     for k, (family, colour) in enumerate(FAMILY_COLOURS.items()):
         points = [(row.variables, row.rows) for row in rows if row.family == family and row.rows]
         panel.series(points, colour)
-        panel.parts.append(label(panel.x0 + WIDTH - 84, panel.y0 + HEIGHT - 8 - 15 * (len(FAMILY_COLOURS) - 1 - k), family, colour=colour, more='font-weight="bold"'))
+        y = panel.y0 + HEIGHT - 98 + 15 * k
+        panel.parts.append(label(panel.x0 + WIDTH - 84, y, family, colour=colour, more='font-weight="bold"'))
     return panel.parts
 
 
@@ -193,7 +195,11 @@ def legend():
         parts.append(stroke([(x, 46), (x + 24, 46)], colour, dash, 2.4))
         parts.append(label(x + 29, 50, name))
         x += 29 + 7 * len(name) + 18
-    parts.append(label(LEFT - 40, 70, "Times are of the whole command unless said otherwise. An open circle: the table is full (verdict 2). Lines end where a checker took over 60 s or has too many inputs.", size=11, colour="#555"))
+    note = (
+        "Times are of the whole command unless said otherwise. An open circle: the table is full (verdict 2). "
+        "Lines end where a checker took over 60 s or has too many inputs."
+    )
+    parts.append(label(LEFT - 40, 70, note, size=11, colour="#555"))
     return parts
 
 

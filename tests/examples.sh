@@ -26,9 +26,21 @@ prints() {
     "$@" <"$text" | cmp - "$out"
 }
 
+# circuit: the circuit program. It is compiled for x86-64; on another processor the toolchain has an emulator.
+program=target/bin/mullagrane
+circuit() {
+    local machine tools
+    machine=$(uname -m)
+    if [ "$machine" = x86_64 ]; then
+        "$program"
+    else
+        tools=$(dirname "$(dirname "$(readlink -f "$(command -v rt)")")")/on/$machine/toolchain
+        "$tools/bin/qemu-x86_64" "$tools/lib/ld-linux-x86-64.so.2" --library-path "$tools/lib" "$program"
+    fi
+}
+
 (cd tests/second && cargo build --release --offline --quiet) || failed=$((failed + 1))
 second=tests/second/target/release/second
-program=target/bin/mullagrane
 [ -x "$program" ] || echo "examples: $program is not built; nothing is counted for it"
 
 for text in examples/*.aag; do
@@ -40,7 +52,7 @@ for text in examples/*.aag; do
     fi
     what "$out is not what the second program prints" prints "$out" "$text" "$second" verdicts
     if [ -x "$program" ]; then
-        what "$out is not what $program prints" prints "$out" "$text" "$program"
+        what "$out is not what $program prints" prints "$out" "$text" circuit
     fi
 done
 
