@@ -2,13 +2,12 @@
 -- Assumes nothing.
 use Prim.Native.Nat.{ℕ}
 use mathlib.Core.Path.{_≡_, sym, ap, _∙_}
-use mathlib.Core.Bool.{Bool}
 use mathlib.Core.List.{List}
 use Rattle.steps.specs.Table.{Slices}
 use Rattle.table.specs.declared.Answer.{Answer}
 use Rattle.table.specs.Calls.{Left, left}
 use Rattle.numbers.specs.Calls.{variable-call, value-call, one-call, OneLeft, one-left, OneMeans}
-use Rattle.sums.specs.Calls.{Answered}
+use Rattle.sums.specs.Calls.{Does}
 use Rattle.aiger.specs.Answers.{textCall}
 use Rattle.mg.specs.Seen.{Seen, seen, Shows, show-made, show-value, show-one, show-counts}
 
@@ -29,11 +28,11 @@ module _ {k k′ : ℕ} {held outs outs′ : ℕ × ℕ} where
       → (seen k outs ≡ seen k′ outs′) × (t ≡ t′)
   variable-unique N c s t t′ v a b = made-unique (variable-call N c s v) t t′ (λ r e. e) (λ r e. e) a b
 
-  -- the sum and the product
-  pub pair-unique : (op : Bool → Bool → Bool) (call : Left) (c : ℕ) (s t t′ : Slices) (f g : ℕ)
-      → Shows show-made (λ r. Answered op call r c s t f g) k held outs → Shows show-made (λ r. Answered op call r c s t′ f g) k′ held outs′
+  -- the sum, the product, adding an equation and the normal form
+  pub does-unique : (Meant : ℕ → ℕ → Slices → Type 0) (call : Left) (t t′ : Slices)
+      → Shows show-made (λ r. Does Meant call r t) k held outs → Shows show-made (λ r. Does Meant call r t′) k′ held outs′
       → (seen k outs ≡ seen k′ outs′) × (t ≡ t′)
-  pair-unique op call c s t t′ f g a b = made-unique call t t′ (λ r p. p .is) (λ r p. p .is) a b
+  does-unique Meant call t t′ a b = made-unique call t t′ (λ r p. p .is) (λ r p. p .is) a b
 
   pub text-unique : (text : List ℕ) → Shows show-counts (λ r. r ≡ textCall text) k held outs → Shows show-counts (λ r. r ≡ textCall text) k′ held outs′ → seen k outs ≡ seen k′ outs′
   text-unique text a b = shown-alike a b (a .promised ∙ sym (b .promised))

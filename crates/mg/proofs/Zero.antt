@@ -9,7 +9,8 @@ use lib.Dec.{eqb, ltb}
 use lib.ListN.{length}
 use Rattle.steps.specs.Sound.{sound}
 use Rattle.steps.specs.Table.{Slices, rows-of}
-use Rattle.steps.specs.Steps.{Steps, make}
+use Rattle.steps.specs.Steps.{Steps, make, normal}
+use Rattle.steps.specs.System.{equation}
 use Rattle.steps.specs.Room.{Ending, made, full, within}
 use Rattle.table.specs.declared.Answer.{Answer}
 use Rattle.table.specs.declared.Answer.the-variants.{Made, Refused}
@@ -20,7 +21,8 @@ use Rattle.numbers.specs.declared.Valued.the-variants.{Value, NoValue}
 use Rattle.numbers.specs.declared.Sought.{Sought}
 use Rattle.numbers.specs.declared.Sought.the-variants.{One, NoOne}
 use Rattle.numbers.specs.Calls.{variable-call, all-bits, value-call, bit, OneLeft, one-left, one-call, OneMeans}
-use Rattle.sums.specs.Calls.{pair-call, Answered}
+use Rattle.sums.specs.Calls.{pair-call, Does, Means, Answered}
+use Rattle.normal.specs.Calls.{system-checked, in-order, equation-call, Adds, normal-call, Reduced}
 use Rattle.aiger.specs.Net.{Got, got, refused, Net, circuit}
 use Rattle.aiger.specs.Answers.{answerOf, textCall}
 use Rattle.aiger.specs.declared.net.Refusal.the-variants.{TooLong, Form, Limits, Literal, Order}
@@ -76,15 +78,40 @@ pair-numbered N m c s f g =
     numbered-checked (in-range N c s) (sound N (rows-of s c)) (numbered-refusal s)
     (numbered-unless (in-use c f && in-use c g) (numbered-refusal s 3 (omega arith)) (numbered-steps m c s))
 
+system-numbered : (c : ℕ) (s : Slices) (k F : ℕ) {d : Left} → Numbered appends-not d → Numbered appends-not (system-checked c s k F d)
+system-numbered c s k F n = numbered-unless (in-use c k && in-use c F) (numbered-refusal s 3 (omega arith)) (numbered-unless (not (eqb F 0)) (numbered-refusal s 4 (omega arith)) n)
+
+equation-numbered : (N c : ℕ) (s : Slices) (i F t : ℕ) → Numbered appends-not (equation-call N c s i F t)
+unfolding equation-call
+equation-numbered N c s i F t =
+    numbered-checked (in-range N c s) (sound N (rows-of s c)) (numbered-refusal s)
+    (system-numbered c s t F (numbered-unless (in-order N (rows-of s c) i F t) (numbered-refusal s 5 (omega arith)) (numbered-steps (equation i F t) c s)))
+
+normal-numbered : (N c : ℕ) (s : Slices) (p F : ℕ) → Numbered appends-not (normal-call N c s p F)
+unfolding normal-call
+normal-numbered N c s p F = numbered-checked (in-range N c s) (sound N (rows-of s c)) (numbered-refusal s) (system-numbered c s p F (numbered-steps (normal N p F) c s))
+
 pub variable-zero : (N c : ℕ) (s s′ : Slices) (v : ℕ) {held outs : ℕ × ℕ} → Shows show-made (λ r. variable-call N c s v ≡ left r s′) 0 held outs
     → variable-call N c s v ≡ left (Made (record { 0 = outs .0 }) (outs .1)) s′
 variable-zero N c s s′ v a = zero-made (λ r. variable-call N c s v ≡ left r s′) (variable-numbered N c s v) (λ r e. e) a
 
--- the sum and the product
-pub pair-zero : (op : Bool → Bool → Bool) (N : ℕ) (m : Steps) (c : ℕ) (s s′ : Slices) (f g : ℕ) {held outs : ℕ × ℕ}
-    → Shows show-made (λ r. Answered op (pair-call N m c s f g) r c s s′ f g) 0 held outs
-    → Answered op (pair-call N m c s f g) (Made (record { 0 = outs .0 }) (outs .1)) c s s′ f g
-pair-zero op N m c s s′ f g a = zero-made (λ r. Answered op (pair-call N m c s f g) r c s s′ f g) (pair-numbered N m c s f g) (λ r p. p .is) a
+-- the sum, the product, adding an equation and the normal form
+does-zero : (Meant : ℕ → ℕ → Slices → Type 0) (call : Left) (s′ : Slices) → Numbered appends-not call → {held outs : ℕ × ℕ} → Shows show-made (λ r. Does Meant call r s′) 0 held outs
+    → Does Meant call (Made (record { 0 = outs .0 }) (outs .1)) s′
+does-zero Meant call s′ n a = zero-made (λ r. Does Meant call r s′) n (λ r p. p .is) a
+
+module _ (N c : ℕ) (s s′ : Slices) {held outs : ℕ × ℕ} where
+  pub pair-zero : (op : Bool → Bool → Bool) (m : Steps) (f g : ℕ) → Shows show-made (λ r. Answered op (pair-call N m c s f g) r c s s′ f g) 0 held outs
+      → Answered op (pair-call N m c s f g) (Made (record { 0 = outs .0 }) (outs .1)) c s s′ f g
+  pair-zero op m f g = does-zero (Means op c s f g) (pair-call N m c s f g) s′ (pair-numbered N m c s f g)
+
+  pub equation-zero : (i F t : ℕ) → Shows show-made (λ r. Does (Adds c s i F t) (equation-call N c s i F t) r s′) 0 held outs
+      → Does (Adds c s i F t) (equation-call N c s i F t) (Made (record { 0 = outs .0 }) (outs .1)) s′
+  equation-zero i F t = does-zero (Adds c s i F t) (equation-call N c s i F t) s′ (equation-numbered N c s i F t)
+
+  pub normal-zero : (p F : ℕ) → Shows show-made (λ r. Does (Reduced c s p F) (normal-call N c s p F) r s′) 0 held outs
+      → Does (Reduced c s p F) (normal-call N c s p F) (Made (record { 0 = outs .0 }) (outs .1)) s′
+  normal-zero p F = does-zero (Reduced c s p F) (normal-call N c s p F) s′ (normal-numbered N c s p F)
 
 -- value and one
 

@@ -9,8 +9,9 @@ ghost use lib.ListN.{length, replicate};
 ghost use Rattle.steps.specs.Table.{slices};
 ghost use Rattle.table.specs.Calls.{left};
 ghost use Rattle.numbers.specs.Calls.{variable-call, value-call, one-call, one-left, OneMeans};
-ghost use Rattle.sums.specs.Calls.{sum-call, Answered};
+ghost use Rattle.sums.specs.Calls.{sum-call, Does, Answered};
 ghost use Rattle.products.specs.Calls.{product-call};
+ghost use Rattle.normal.specs.Calls.{equation-call, Adds, normal-call, Reduced};
 ghost use Rattle.aiger.specs.Answers.{textCall};
 ghost use Rattle.mg.specs.Seen.{Shows, show-made, show-value, show-one, show-counts};
 
@@ -129,6 +130,67 @@ pub extern "C" fn mg_one(
 {
     let r = numbers::one(n, vs, ts, es, count, work, Row(f), bytes);
     show::one(r)
+}
+
+// The system with the equation x_lead + tail = 0 added.
+#[no_mangle]
+pub extern "C" fn mg_equation(
+    n: usize,
+    vs: &mut [u16],
+    ts: &mut [u16],
+    es: &mut [u16],
+    count: usize,
+    work: &mut [u64],
+    lead: u16,
+    system: u16,
+    tail: u16,
+    row: &mut u16,
+    used: &mut usize,
+) -> u32
+    ensures { λ k. ⌜ Shows show-made
+        (λ r. Does (Adds count (slices (now (vs .entry)) (now (ts .entry)) (now (es .entry))) lead system tail)
+        (equation-call n count (slices (now (vs .entry)) (now (ts .entry)) (now (es .entry))) lead system tail) r
+        (slices (now (vs .exit)) (now (ts .exit)) (now (es .exit))))
+        k (now (row .entry), now (used .entry)) (now (row .exit), now (used .exit)) ⌝ }
+    ensures { λ _. ⌜ now (work .exit) ≡ replicate (length (now (work .entry))) 0 ⌝ }
+{
+    let r = normal::equation(
+        n,
+        vs,
+        ts,
+        es,
+        count,
+        work,
+        Var(lead),
+        Row(system),
+        Row(tail),
+    );
+    show::made(r, row, used)
+}
+
+// The normal form of p by a system.
+#[no_mangle]
+pub extern "C" fn mg_normal_form(
+    n: usize,
+    vs: &mut [u16],
+    ts: &mut [u16],
+    es: &mut [u16],
+    count: usize,
+    work: &mut [u64],
+    p: u16,
+    system: u16,
+    row: &mut u16,
+    used: &mut usize,
+) -> u32
+    ensures { λ k. ⌜ Shows show-made
+        (λ r. Does (Reduced count (slices (now (vs .entry)) (now (ts .entry)) (now (es .entry))) p system)
+        (normal-call n count (slices (now (vs .entry)) (now (ts .entry)) (now (es .entry))) p system) r
+        (slices (now (vs .exit)) (now (ts .exit)) (now (es .exit))))
+        k (now (row .entry), now (used .entry)) (now (row .exit), now (used .exit)) ⌝ }
+    ensures { λ _. ⌜ now (work .exit) ≡ replicate (length (now (work .entry))) 0 ⌝ }
+{
+    let r = normal::normal_form(n, vs, ts, es, count, work, Row(p), Row(system));
+    show::made(r, row, used)
 }
 
 // I and O of a circuit's text.
