@@ -1,0 +1,7 @@
+pub mod Rings
+pub mod Building
+pub mod Inputs
+pub mod Least
+pub mod Outcomes
+pub mod Theorems
+mod Printed
