@@ -25,8 +25,6 @@ use Rattle.verdicts.specs.Systems.{literal-steps, gate-steps, build, out
 use Rattle.verdicts.proofs.Rings.{values-at, values-0, values-inside, gate-value, run-ring, values-run}
 
 module _ (N : ℕ) where
-  -- the steps only append
-
   pub literal-small : (l : ℕ) (S : Rows) → l < 2 → literal-steps N l S ≡ answer l S
   unfolding literal-steps
   literal-small l S h = rw (lt-ltb l 2 h)
@@ -35,6 +33,8 @@ module _ (N : ℕ) where
   unfolding literal-steps
   literal-row l S h = rw (le-ltb l 2 h)
 
+  -- the steps only append
+
   pub keeps-literal : (l : ℕ) → Keeps (literal-steps N l)
   keeps-literal l R = go (ltb l 2) refl
     where
@@ -42,21 +42,16 @@ module _ (N : ℕ) where
       go true e = rw (literal-small l R (ltb-true l 2 e)) stop
       go false e = rw (literal-row l R (ltb-false l 2 e)) (keeps-make (N - l / 2) 1 (l % 2) R)
 
-  -- what is left of a gate after its first literal, and after its second
-  abbrev pub after-second : Gate → ℕ → ℕ → ℕ → Steps
-  after-second g F f h = product N f h >>= equation (N - g .left / 2) F
+  -- what is left of a gate after its literals, and after the first of them
+  pub keeps-joined : (l F f h : ℕ) → Keeps (product N f h >>= equation (N - l / 2) F)
+  keeps-joined l F f h = keeps-bind (product N f h) (equation (N - l / 2) F) (keeps-products N (suc N) f h) (keeps-make (N - l / 2) F)
 
-  abbrev pub after-first : Gate → ℕ → ℕ → Steps
-  after-first g F f = literal-steps N (g .right1) >>= after-second g F f
-
-  pub keeps-after-second : (g : Gate) (F f h : ℕ) → Keeps (after-second g F f h)
-  keeps-after-second g F f h = keeps-bind (product N f h) (equation (N - g .left / 2) F) (keeps-products N (suc N) f h) (keeps-make (N - g .left / 2) F)
-
-  pub keeps-after-first : (g : Gate) (F f : ℕ) → Keeps (after-first g F f)
-  keeps-after-first g F f = keeps-bind (literal-steps N (g .right1)) (after-second g F f) (keeps-literal (g .right1)) (keeps-after-second g F f)
+  pub keeps-second : (l r F f : ℕ) → Keeps (literal-steps N r >>= λ h. product N f h >>= equation (N - l / 2) F)
+  keeps-second l r F f = keeps-bind (literal-steps N r) (λ h. product N f h >>= equation (N - l / 2) F) (keeps-literal r) (keeps-joined l F f)
 
   pub keeps-gate : (g : Gate) (F : ℕ) → Keeps (gate-steps N g F)
-  keeps-gate g F = keeps-bind (literal-steps N (g .right0)) (after-first g F) (keeps-literal (g .right0)) (keeps-after-first g F)
+  keeps-gate g F =
+      keeps-bind (literal-steps N (g .right0)) (λ f. literal-steps N (g .right1) >>= λ h. product N f h >>= equation (N - g .left / 2) F) (keeps-literal (g .right0)) (keeps-second (g .left) (g .right1) F)
 
   pub keeps-build : (gs : List Gate) (F : ℕ) → Keeps (build N gs F)
   unfolding build
