@@ -95,33 +95,50 @@ module _ (N : ℕ) (s₀ : Slices) (work₀ : List ℕ) (xs ys zs : List ℕ) (g
   abbrev all : List Gate
   all = gatesOf gates xs ys zs
 
-  -- the gates from k on are left
-  abbrev pub LeftFrom : ℕ → ℕ → ℕ → Slices → List ℕ → Type 0
-  LeftFrom k F c s work = Left N s₀ work₀ (gatesOf gates xs ys zs) (drop k (gatesOf gates xs ys zs)) F c s work
+  -- the last `rest` gates are left
+  pub record LeftOf (rest F c : ℕ) (s : Slices) (work : List ℕ) : Type 0 where
+    pub few : rest ≤ gates
+    pub left : Left N s₀ work₀ (gatesOf gates xs ys zs) (drop (gates - rest) (gatesOf gates xs ys zs)) F c s work
 
-  pub build-starts : BuildAsked N s₀ work₀ xs ys zs gates → LeftFrom 0 1 0 s₀ work₀
+  pub build-starts : BuildAsked N s₀ work₀ xs ys zs gates → LeftOf gates 1 0 s₀ work₀
   build-starts a = record {
-    live = a .live;
-    not-0 = λ q. omega arith;
-    used = omega arith;
-    last = 0;
-    above = rw (root, row-const N (rows-of s₀ 0) 1 (omega arith)) (omega arith);
-    order = a .order;
-    goes-on = λ r s′ work′ d. d;
+    few = omega arith;
+    left = rw (nothing-passed) (record {
+      live = a .live;
+      not-0 = λ q. omega arith;
+      used = omega arith;
+      last = 0;
+      above = rw (root, row-const N (rows-of s₀ 0) 1 (omega arith)) (omega arith);
+      order = a .order;
+      goes-on = λ r s′ work′ d. d;
+    });
   }
+    where
+      nothing-passed : gates - gates ≡ 0
+      nothing-passed = omega arith
 
-  module _ (k F c : ℕ) (s : Slices) (work : List ℕ) (h : k < gates) (x : LeftFrom k F c s work) where
+  module _ (rest F c : ℕ) (s : Slices) (work : List ℕ) (x : LeftOf rest F c s work) (h : 0 < rest) where
+    abbrev k : ℕ
+    k = gates - rest
+
     opened : Left N s₀ work₀ all (gateAt k xs ys zs ∷ drop (k + 1) all) F c s work
-    opened = rw (gates-from xs ys zs gates k h) at x
+    opened = rw (gates-from xs ys zs gates k (omega (arith, x .few))) at (x .left)
 
-    pub gate-asks : GateAsked N c s work (gateAt k xs ys zs) F
+    pub gate-asks : GateAsked N c s work (gateAt (gates - rest) xs ys zs) F
     gate-asks = left-asks N s₀ work₀ all F c s work (gateAt k xs ys zs) (drop (k + 1) all) opened
 
-    pub gate-full : {s₁ : Slices} {work₁ : List ℕ} → Kept N (gate-steps N (gateAt k xs ys zs) F) Full c s s₁ work work₁ → Kept N (build N (gatesOf gates xs ys zs) 1) Full 0 s₀ s₁ work₀ work₁
+    pub gate-full : {s₁ : Slices} {work₁ : List ℕ} → Kept N (gate-steps N (gateAt (gates - rest) xs ys zs) F) Full c s s₁ work work₁ → Kept N (build N (gatesOf gates xs ys zs) 1) Full 0 s₀ s₁ work₀ work₁
     gate-full {s₁} {work₁} d = left-full N s₀ work₀ all F c s work (gateAt k xs ys zs) (drop (k + 1) all) opened s₁ work₁ d
 
-    pub gate-next : {G : Row} {n : ℕ} {s₁ : Slices} {work₁ : List ℕ} → Kept N (gate-steps N (gateAt k xs ys zs) F) (At G n) c s s₁ work work₁ → LeftFrom (k + 1) (G .0) n s₁ work₁
-    gate-next {G} {n} {s₁} {work₁} d = left-next N s₀ work₀ all F c s work (gateAt k xs ys zs) (drop (k + 1) all) opened G n s₁ work₁ d
+    pub gate-next : {G : Row} {n : ℕ} {s₁ : Slices} {work₁ : List ℕ} → Kept N (gate-steps N (gateAt (gates - rest) xs ys zs) F) (At G n) c s s₁ work work₁ → LeftOf (rest - 1) (G .0) n s₁ work₁
+    gate-next {G} {n} {s₁} {work₁} d = record {
+      few = omega (arith, x .few);
+      left = subst (λ (j : ℕ). Left N s₀ work₀ all (drop j all) (G .0) n s₁ work₁) one-passed (left-next N s₀ work₀ all F c s work (gateAt k xs ys zs) (drop (k + 1) all) opened G n s₁ work₁ d);
+    }
+      where
+        one-passed : gates - rest + 1 ≡ gates - (rest - 1)
+        one-passed = omega (arith, x .few)
 
-  pub build-ends : (k : ℕ) {F : Row} {c : ℕ} {s : Slices} {work : List ℕ} → gates ≤ k → LeftFrom k (F .0) c s work → Kept N (build N (gatesOf gates xs ys zs) 1) (At F c) 0 s₀ s work₀ work
-  build-ends k {F} {c} {s} {work} h x = left-end N s₀ work₀ all F c s work (rw (drop-of-length-le all {i = k} (omega (arith, length-gates gates xs ys zs))) at x)
+  pub build-ends : {rest : ℕ} {F : Row} {c : ℕ} {s : Slices} {work : List ℕ} → LeftOf rest (F .0) c s work → rest ≤ 0 → Kept N (build N (gatesOf gates xs ys zs) 1) (At F c) 0 s₀ s work₀ work
+  build-ends {rest} {F} {c} {s} {work} x h =
+      left-end N s₀ work₀ all F c s work (rw (drop-of-length-le all {i = gates - rest} (omega (arith, length-gates gates xs ys zs))) at (x .left))

@@ -100,17 +100,20 @@ pub fn build(
 {
     let mut system = Row(1);
     let mut count = 0;
-    let mut k = 0;
-    while k < gates {
+    // gates still to be added
+    let mut rest = gates;
+    while 0 < rest {
+        let k = gates - rest;
         let left = Lit(lefts[k]);
         let right0 = Lit(rights0[k]);
         let right1 = Lit(rights1[k]);
-        let Made::At(next, c) = gate(vs, ts, es, work, n, count, left, right0, right1, system) else {
+        let Made::At(next, c) = gate(vs, ts, es, work, n, count, left, right0, right1, system)
+        else {
             return Made::Full;
         };
         system = next;
         count = c;
-        k += 1;
+        rest -= 1;
     }
     Made::At(system, count)
 }
