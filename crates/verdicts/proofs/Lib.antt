@@ -3,5 +3,6 @@ pub mod Building
 pub mod Inputs
 pub mod Least
 pub mod Outcomes
+pub mod Endings
 pub mod Theorems
 mod Printed
