@@ -139,6 +139,14 @@ agree-values (l ∷ ls) a b z e v d = by-first l ls a b (cc) (agree-values ls a 
 
 -- the whole net
 
+-- what the gates make of values depends on the inputs' alone
+pub gates-agree : {net : Net} → Accepted net → (a b : Values) → Agree (net .inputs) a b → Agree (net .inputs ++ lefts (net .gates)) (run (net .gates) a) (run (net .gates) b)
+gates-agree {net} ok a b e =
+    let kept : Agree (net .inputs ++ lefts []) (run (net .gates) b) b = run-keeps (net .M) (net .inputs) 0 [] (net .gates) (ok .gates-chain) b in
+    let kept′ : Agree (net .inputs) (run (net .gates) b) b = rw append-nil at kept in
+    run-only (net .M) (net .inputs) 0 [] (net .gates) (ok .gates-chain) a (run (net .gates) b) (rw append-nil (λ v d. e v d ∙ sym (kept′ v d)))
+    (run-holds (net .M) (net .inputs) 0 [] (net .gates) (ok .gates-chain) b)
+
 module _ {net : Net} (ok : Accepted net) (pattern : List Bool) where
   pub inputs-valued : length pattern ≡ length (net .inputs) → valuesOf (values net pattern) (net .inputs) ≡ pattern
   inputs-valued e =

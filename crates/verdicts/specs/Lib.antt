@@ -1,0 +1,4 @@
+pub mod Systems
+pub mod Patterns
+pub mod Verdicts
+pub mod Calls
