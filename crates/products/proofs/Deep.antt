@@ -26,10 +26,10 @@ use Rattle.products.specs.Inner.{Proper, Three, Quad, three-steps, rest-
 use Rattle.products.proofs.Parts.{apart, split-product, then-right}
 
 module _ (N c : ℕ) (s : Slices) (work : List ℕ) (live : Live N c s work) (x y : ℕ) (ux : x < c + 2) (uy : y < c + 2) (k : Row) (n : ℕ) (s′ : Slices) (work′ : List ℕ) where
-  summed : Kept N (sum N x y) (Made-at k n) c s s′ work work′ → Step N c s (k .0) n s′
+  pub summed : Kept N (sum N x y) (Made-at k n) c s s′ work work′ → Step N c s (k .0) n s′
   summed d = stepped (sum-right N (rows-of s c) (live .sound) x y (omega (arith, rows-of-next s c)) (omega (arith, rows-of-next s c)) 0 (omega arith) (omega arith)) d
 
-  multiplied : Kept N (product N x y) (Made-at k n) c s s′ work work′ → Step N c s (k .0) n s′
+  pub multiplied : Kept N (product N x y) (Made-at k n) c s s′ work work′ → Step N c s (k .0) n s′
   multiplied d = stepped (product-right N (rows-of s c) (live .sound) x y (omega (arith, rows-of-next s c)) (omega (arith, rows-of-next s c)) 0 (omega arith) (omega arith)) d
 
 -- the two sums

@@ -1,0 +1,5 @@
+pub mod Skipping
+pub mod Walking
+pub mod Filling
+pub mod Tabling
+pub mod Deep

@@ -1,0 +1,173 @@
+// The calls equation and normal form, and the written steps of the normal form for the crates above.
+pub mod leads;
+pub mod written;
+
+use table::Answer;
+use table::Row;
+use table::Var;
+use table::check::Table;
+use table::check::check;
+use table::clear::zero_work;
+use table::finish::finish;
+use table::make::make;
+use table::rows::Node;
+use table::rows::row_of;
+ghost use mathlib.Core.Path.{_≡_};
+ghost use Prim.Native.Nat.{_≤_};
+ghost use lib.ListN.{length, replicate};
+ghost use Rattle.steps.specs.Table.{slices};
+ghost use Rattle.table.specs.Memory.{Live};
+ghost use Rattle.normal.specs.Calls.{equation-checked, equation-call, Added, normal-checked, normal-call, Formed};
+
+fn equation_ready(
+    n: usize,
+    vs: &mut [u16],
+    ts: &mut [u16],
+    es: &mut [u16],
+    count: usize,
+    work: &mut [u64],
+    lead: Var,
+    system: Row,
+    tail: Row,
+) -> Answer
+    requires { ⌜ (Live n count (slices (now vs) (now ts) (now es)) (now work)) × (n ≤ 1024) ⌝ }
+    ensures { λ r. ⌜ Added (equation-checked n count (slices (now (vs .entry)) (now (ts .entry)) (now (es .entry))) (lead .0) (system .0) (tail .0)) r count (slices (now (vs .entry)) (now (ts .entry)) (now (es .entry))) (slices (now (vs .exit)) (now (ts .exit)) (now (es .exit))) (lead .0) (system .0) (tail .0) ⌝ }
+{
+    if count + 2 <= tail.0 as usize {
+        return Answer::Refused(3);
+    }
+    if count + 2 <= system.0 as usize {
+        return Answer::Refused(3);
+    }
+    if system.0 == 0 {
+        return Answer::Refused(4);
+    }
+    if n <= lead.0 as usize {
+        return Answer::Refused(5);
+    }
+    if row_of(vs, ts, es, count, n as u16, system).v.0 <= lead.0 {
+        return Answer::Refused(5);
+    }
+    if row_of(vs, ts, es, count, n as u16, tail).v.0 <= lead.0 {
+        return Answer::Refused(5);
+    }
+    let made = make(
+        vs,
+        ts,
+        es,
+        work,
+        count,
+        Node {
+            v: lead,
+            t: system,
+            e: tail,
+        },
+    );
+    finish(vs, ts, es, count, made)
+}
+
+fn equation_checked(
+    n: usize,
+    vs: &mut [u16],
+    ts: &mut [u16],
+    es: &mut [u16],
+    count: usize,
+    work: &mut [u64],
+    lead: Var,
+    system: Row,
+    tail: Row,
+) -> Answer
+    ensures { λ r. ⌜ Added (equation-call n count (slices (now (vs .entry)) (now (ts .entry)) (now (es .entry))) (lead .0) (system .0) (tail .0)) r count (slices (now (vs .entry)) (now (ts .entry)) (now (es .entry))) (slices (now (vs .exit)) (now (ts .exit)) (now (es .exit))) (lead .0) (system .0) (tail .0) ⌝ }
+{
+    let table = check(n, vs, ts, es, count, work);
+    match table {
+        Table::OutOfRange => Answer::Refused(1),
+        Table::Unsound => Answer::Refused(2),
+        Table::Fine => equation_ready(n, vs, ts, es, count, work, lead, system, tail),
+    }
+}
+
+// The system with the equation x_lead + tail = 0 added.
+pub fn equation(
+    n: usize,
+    vs: &mut [u16],
+    ts: &mut [u16],
+    es: &mut [u16],
+    count: usize,
+    work: &mut [u64],
+    lead: Var,
+    system: Row,
+    tail: Row,
+) -> Answer
+    ensures { λ r. ⌜ Added (equation-call n count (slices (now (vs .entry)) (now (ts .entry)) (now (es .entry))) (lead .0) (system .0) (tail .0)) r count (slices (now (vs .entry)) (now (ts .entry)) (now (es .entry))) (slices (now (vs .exit)) (now (ts .exit)) (now (es .exit))) (lead .0) (system .0) (tail .0) ⌝ }
+    ensures { λ _. ⌜ now (work .exit) ≡ replicate (length (now (work .entry))) 0 ⌝ }
+{
+    let r = equation_checked(n, vs, ts, es, count, work, lead, system, tail);
+    zero_work(work);
+    r
+}
+
+fn normal_ready(
+    n: usize,
+    vs: &mut [u16],
+    ts: &mut [u16],
+    es: &mut [u16],
+    count: usize,
+    work: &mut [u64],
+    p: Row,
+    system: Row,
+) -> Answer
+    requires { ⌜ (Live n count (slices (now vs) (now ts) (now es)) (now work)) × (n ≤ 1024) ⌝ }
+    ensures { λ r. ⌜ Formed (normal-checked n count (slices (now (vs .entry)) (now (ts .entry)) (now (es .entry))) (p .0) (system .0)) r count (slices (now (vs .entry)) (now (ts .entry)) (now (es .entry))) (slices (now (vs .exit)) (now (ts .exit)) (now (es .exit))) (p .0) (system .0) ⌝ }
+{
+    if count + 2 <= p.0 as usize {
+        return Answer::Refused(3);
+    }
+    if count + 2 <= system.0 as usize {
+        return Answer::Refused(3);
+    }
+    if system.0 == 0 {
+        return Answer::Refused(4);
+    }
+    let made = written::reduce(vs, ts, es, work, n as u16, count, p, system);
+    finish(vs, ts, es, count, made)
+}
+
+fn normal_checked(
+    n: usize,
+    vs: &mut [u16],
+    ts: &mut [u16],
+    es: &mut [u16],
+    count: usize,
+    work: &mut [u64],
+    p: Row,
+    system: Row,
+) -> Answer
+    ensures { λ r. ⌜ Formed (normal-call n count (slices (now (vs .entry)) (now (ts .entry)) (now (es .entry))) (p .0) (system .0)) r count (slices (now (vs .entry)) (now (ts .entry)) (now (es .entry))) (slices (now (vs .exit)) (now (ts .exit)) (now (es .exit))) (p .0) (system .0) ⌝ }
+{
+    let table = check(n, vs, ts, es, count, work);
+    match table {
+        Table::OutOfRange => Answer::Refused(1),
+        Table::Unsound => Answer::Refused(2),
+        Table::Fine => normal_ready(n, vs, ts, es, count, work, p, system),
+    }
+}
+
+// The normal form of p by the system.
+pub fn normal_form(
+    n: usize,
+    vs: &mut [u16],
+    ts: &mut [u16],
+    es: &mut [u16],
+    count: usize,
+    work: &mut [u64],
+    p: Row,
+    system: Row,
+) -> Answer
+    ensures { λ r. ⌜ Formed (normal-call n count (slices (now (vs .entry)) (now (ts .entry)) (now (es .entry))) (p .0) (system .0)) r count (slices (now (vs .entry)) (now (ts .entry)) (now (es .entry))) (slices (now (vs .exit)) (now (ts .exit)) (now (es .exit))) (p .0) (system .0) ⌝ }
+    ensures { λ _. ⌜ now (work .exit) ≡ replicate (length (now (work .entry))) 0 ⌝ }
+{
+    let r = normal_checked(n, vs, ts, es, count, work, p, system);
+    zero_work(work);
+    r
+}
