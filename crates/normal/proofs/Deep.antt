@@ -69,8 +69,8 @@ module _ (N c : ℕ) (s : Slices) (work : List ℕ) (p f : ℕ) (d : Reducing N 
 
 -- the normal form of p by f
 module _ (N c : ℕ) (s : Slices) (work : List ℕ) (p f : ℕ) (d : Reduces N c s work p f) where
-  pub form-const : {k : Row} → p < 2 → p ≡ k .0 → normal N p f (rows-of s c) ≡ answer (k .0) (rows-of s c)
-  form-const h e = normals-const N N p f (rows-of s c) h ∙ ap (λ (x : ℕ). answer x (rows-of s c)) e
+  pub form-const : p < 2 → normal N p f (rows-of s c) ≡ answer p (rows-of s c)
+  form-const h = normals-const N N p f (rows-of s c) h
 
   pub form-asks : Numbered c s p
   form-asks = record { lent = d .by .live .indexed .lent; used = d .used }
@@ -165,10 +165,10 @@ module _ (N c : ℕ) (s : Slices) (work : List ℕ) (p f : ℕ) (d : Reduces N c
     below-done b k =
         kept-by (rw q at (normal-below N (rows-of s c) (d .by .live .sound) p f (in-rows s c p (d .used)) (in-rows s c f (d .by .system .used)) (d .by .system .not-0) (a .some) (a .inner) (rw (q, q′) b))) k
 
-    equal : (v < u → ⊥) → v ≡ u
+    equal : u ≤ v → v ≡ u
     equal b = let z : v ≤ u = rw (root, q, q′) at (a .reached) in omega arith
 
-    pub meet-asks : (v < u → ⊥) → (m : ℕ) → 4 * depth N (rows-of s c) p f + 2 ≡ m → (4 * (N - v) + 1 < m) × Meet N c s work v t e h l
+    pub meet-asks : u ≤ v → (m : ℕ) → 4 * depth N (rows-of s c) p f + 2 ≡ m → (4 * (N - v) + 1 < m) × Meet N c s work v t e h l
     meet-asks b m z = (depth-is m z, record {
       parts = record {
         by = rw q′ at (others-reduce N c s work f (d .by) (lead-node .var-below));
@@ -183,7 +183,7 @@ module _ (N c : ℕ) (s : Slices) (work : List ℕ) (p f : ℕ) (d : Reduces N c
       tail-above = rw (equal b) (rw q′ at (lead-node .cut .else-above));
     })
 
-    pub meet-done : (v < u → ⊥) → {r : Made} {s′ : Slices} {work′ : List ℕ} → Kept N (meet-steps N t e h l) r c s s′ work work′ → Kept N (normal N p f) r c s s′ work work′
+    pub meet-done : u ≤ v → {r : Made} {s′ : Slices} {work′ : List ℕ} → Kept N (meet-steps N t e h l) r c s s′ work work′ → Kept N (normal N p f) r c s s′ work work′
     meet-done b k =
         kept-by (rw (q, q′) at (normal-equal N (rows-of s c) (d .by .live .sound) p f (in-rows s c p (d .used)) (in-rows s c f (d .by .system .used)) (d .by .system .not-0) (a .some) (a .inner) (rw (q, q′) (equal b)))) k
 

@@ -1,4 +1,10 @@
-use Prim.Native.Nat.{ℕ, _<_}
+use borrow.Author.Needs.{needs}
+use mathlib.Core.Path.{_∙_}
+use Rattle.steps.specs.Table.{slices, rows-of}
+use Rattle.sums.specs.Inner.{depth}
+use Rattle.sums.proofs.Keeping.{kept-is, kept-nothing}
+use Rattle.normal.proofs.Deep.{form-const, form-asks, form-below, form-empty, form-deep, form-full, form-key, form-recalled, form-remembered, deep-asks, deep-asks-2, below-asks, below-done, meet-asks, meet-done, then-asks, then-full, else-asks, else-full, make-asks, below-made, rest-asks, rest-full, rest-joins, rest-done, a-asks, a-full, b-asks, b-full, rest-follows, meet-made}
+use Prim.Native.Nat.{ℕ, _<_, _*_, _+_, _-_}
 use borrow.Fn.Kinds.{In}
 use borrow.Fn.PlainCycle.{Measures, is, falls, and}
 use Rattle.normal.proofs.written.meet_rest.Reads as meet-rest
@@ -31,19 +37,19 @@ use Rattle.normal.proofs.written.+meet_rest+normal_below+normal_deep+no
 }
 
 abbrev μ-meet-rest : Measures 4 meet-rest-kinds.ps ℕ
-μ-meet-rest κs a = ?
+μ-meet-rest κs a = 4 * (a .1 .1 .1 .1 .0 - a .1 .1 .1 .1 .1 .1 .1 .1 .0 .v .0)
 
 abbrev μ-normal-below : Measures 4 normal-below-kinds.ps ℕ
-μ-normal-below κs a = ?
+μ-normal-below κs a = 4 * (a .1 .1 .1 .1 .0 - a .1 .1 .1 .1 .1 .1 .0 .v .0) + 1
 
 abbrev μ-normal-deep : Measures 4 normal-deep-kinds.ps ℕ
-μ-normal-deep κs a = ?
+μ-normal-deep κs a = 4 * depth (a .1 .1 .1 .1 .0) (rows-of (slices (a .0 .now) (a .1 .0 .now) (a .1 .1 .0 .now)) (a .1 .1 .1 .1 .1 .0)) (a .1 .1 .1 .1 .1 .1 .0 .0) (a .1 .1 .1 .1 .1 .1 .1 .0 .0) + 2
 
 abbrev μ-normal-form : Measures 4 normal-form-kinds.ps ℕ
-μ-normal-form κs a = ?
+μ-normal-form κs a = 4 * depth (a .1 .1 .1 .1 .0) (rows-of (slices (a .0 .now) (a .1 .0 .now) (a .1 .1 .0 .now)) (a .1 .1 .1 .1 .1 .0)) (a .1 .1 .1 .1 .1 .1 .0 .0) (a .1 .1 .1 .1 .1 .1 .1 .0 .0) + 3
 
 abbrev μ-normal-meet : Measures 4 normal-meet-kinds.ps ℕ
-μ-normal-meet κs a = ?
+μ-normal-meet κs a = 4 * (a .1 .1 .1 .1 .0 - a .1 .1 .1 .1 .1 .1 .0 .v .0) + 1
 
 abbrev meet-rest-at : ℕ → In 4 meet-rest-kinds.ps
 meet-rest-at t = and 4 meet-rest-kinds.ps (is 4 meet-rest-kinds.ps μ-meet-rest t) meet-rest.Pre
@@ -88,1207 +94,329 @@ abbrev normal-meet-below : ℕ → In 4 normal-meet-kinds.ps
 normal-meet-below t =
     and 4 normal-meet-kinds.ps (falls 4 normal-meet-kinds.ps _<_ μ-normal-meet t) normal-meet.Pre
 
--- src/written.rt:169:27
-meet-rest-normal-form-requires : (t : ℕ) → meet-rest-lts.Need-normal-form-requires (
-  normal-form-below t,
-  normal-form.Post,
-  join-reads.Asked,
-  join-reads.Learnt,
-) (meet-rest-at t) meet-rest.Post
-meet-rest-normal-form-requires t c κs = ?
-
--- src/written.rt:169:18
-meet-rest-enum-known-c : (t : ℕ) → meet-rest-lts.Need-enum-known-c (
-  normal-form-below t,
-  normal-form.Post,
-  join-reads.Asked,
-  join-reads.Learnt,
-) (meet-rest-at t) meet-rest.Post
-meet-rest-enum-known-c t c = ?
-
--- src/written.rt:170:9
-meet-rest-enum-told : (t : ℕ) → meet-rest-lts.Need-enum-told (
-  normal-form-below t,
-  normal-form.Post,
-  join-reads.Asked,
-  join-reads.Learnt,
-) (meet-rest-at t) meet-rest.Post
-meet-rest-enum-told t c = ?
-
--- src/written.rt:170:9
-meet-rest-same-length : (t : ℕ) → meet-rest-lts.Need-same-length (
-  normal-form-below t,
-  normal-form.Post,
-  join-reads.Asked,
-  join-reads.Learnt,
-) (meet-rest-at t) meet-rest.Post
-meet-rest-same-length t c = ?
-
--- src/written.rt:170:9
-meet-rest-same-length-2 : (t : ℕ) → meet-rest-lts.Need-same-length-2 (
-  normal-form-below t,
-  normal-form.Post,
-  join-reads.Asked,
-  join-reads.Learnt,
-) (meet-rest-at t) meet-rest.Post
-meet-rest-same-length-2 t c = ?
-
--- src/written.rt:170:9
-meet-rest-same-length-3 : (t : ℕ) → meet-rest-lts.Need-same-length-3 (
-  normal-form-below t,
-  normal-form.Post,
-  join-reads.Asked,
-  join-reads.Learnt,
-) (meet-rest-at t) meet-rest.Post
-meet-rest-same-length-3 t c = ?
-
--- src/written.rt:170:9
-meet-rest-same-length-4 : (t : ℕ) → meet-rest-lts.Need-same-length-4 (
-  normal-form-below t,
-  normal-form.Post,
-  join-reads.Asked,
-  join-reads.Learnt,
-) (meet-rest-at t) meet-rest.Post
-meet-rest-same-length-4 t c = ?
-
--- src/written.rt:170:9
-meet-rest-returns : (t : ℕ) → meet-rest-lts.Need-returns (
-  normal-form-below t,
-  normal-form.Post,
-  join-reads.Asked,
-  join-reads.Learnt,
-) (meet-rest-at t) meet-rest.Post
-meet-rest-returns t c = ?
-
--- src/written.rt:172:5
-meet-rest-join-requires : (t : ℕ) → meet-rest-lts.Need-join-requires (
-  normal-form-below t,
-  normal-form.Post,
-  join-reads.Asked,
-  join-reads.Learnt,
-) (meet-rest-at t) meet-rest.Post
-meet-rest-join-requires t c κs = ?
-
--- src/written.rt:153:1
-meet-rest-same-length-5 : (t : ℕ) → meet-rest-lts.Need-same-length-5 (
-  normal-form-below t,
-  normal-form.Post,
-  join-reads.Asked,
-  join-reads.Learnt,
-) (meet-rest-at t) meet-rest.Post
-meet-rest-same-length-5 t c = ?
-
--- src/written.rt:153:1
-meet-rest-same-length-6 : (t : ℕ) → meet-rest-lts.Need-same-length-6 (
-  normal-form-below t,
-  normal-form.Post,
-  join-reads.Asked,
-  join-reads.Learnt,
-) (meet-rest-at t) meet-rest.Post
-meet-rest-same-length-6 t c = ?
-
--- src/written.rt:153:1
-meet-rest-same-length-7 : (t : ℕ) → meet-rest-lts.Need-same-length-7 (
-  normal-form-below t,
-  normal-form.Post,
-  join-reads.Asked,
-  join-reads.Learnt,
-) (meet-rest-at t) meet-rest.Post
-meet-rest-same-length-7 t c = ?
-
--- src/written.rt:153:1
-meet-rest-same-length-8 : (t : ℕ) → meet-rest-lts.Need-same-length-8 (
-  normal-form-below t,
-  normal-form.Post,
-  join-reads.Asked,
-  join-reads.Learnt,
-) (meet-rest-at t) meet-rest.Post
-meet-rest-same-length-8 t c = ?
-
--- src/written.rt:153:1
-meet-rest-returns-2 : (t : ℕ) → meet-rest-lts.Need-returns-2 (
-  normal-form-below t,
-  normal-form.Post,
-  join-reads.Asked,
-  join-reads.Learnt,
-) (meet-rest-at t) meet-rest.Post
-meet-rest-returns-2 t c = ?
-
--- src/written.rt:117:27
-normal-below-normal-form-requires : (t : ℕ) → normal-below-lts.Need-normal-form-requires (
-  normal-form-below t,
-  normal-form.Post,
-  make-reads.Asked,
-  make-reads.Learnt,
-) (normal-below-at t) normal-below.Post
-normal-below-normal-form-requires t c κs = ?
-
--- src/written.rt:117:18
-normal-below-enum-known-t : (t : ℕ) → normal-below-lts.Need-enum-known-t (
-  normal-form-below t,
-  normal-form.Post,
-  make-reads.Asked,
-  make-reads.Learnt,
-) (normal-below-at t) normal-below.Post
-normal-below-enum-known-t t c = ?
-
--- src/written.rt:118:9
-normal-below-enum-told : (t : ℕ) → normal-below-lts.Need-enum-told (
-  normal-form-below t,
-  normal-form.Post,
-  make-reads.Asked,
-  make-reads.Learnt,
-) (normal-below-at t) normal-below.Post
-normal-below-enum-told t c = ?
-
--- src/written.rt:118:9
-normal-below-same-length : (t : ℕ) → normal-below-lts.Need-same-length (
-  normal-form-below t,
-  normal-form.Post,
-  make-reads.Asked,
-  make-reads.Learnt,
-) (normal-below-at t) normal-below.Post
-normal-below-same-length t c = ?
-
--- src/written.rt:118:9
-normal-below-same-length-2 : (t : ℕ) → normal-below-lts.Need-same-length-2 (
-  normal-form-below t,
-  normal-form.Post,
-  make-reads.Asked,
-  make-reads.Learnt,
-) (normal-below-at t) normal-below.Post
-normal-below-same-length-2 t c = ?
-
--- src/written.rt:118:9
-normal-below-same-length-3 : (t : ℕ) → normal-below-lts.Need-same-length-3 (
-  normal-form-below t,
-  normal-form.Post,
-  make-reads.Asked,
-  make-reads.Learnt,
-) (normal-below-at t) normal-below.Post
-normal-below-same-length-3 t c = ?
-
--- src/written.rt:118:9
-normal-below-same-length-4 : (t : ℕ) → normal-below-lts.Need-same-length-4 (
-  normal-form-below t,
-  normal-form.Post,
-  make-reads.Asked,
-  make-reads.Learnt,
-) (normal-below-at t) normal-below.Post
-normal-below-same-length-4 t c = ?
-
--- src/written.rt:118:9
-normal-below-returns : (t : ℕ) → normal-below-lts.Need-returns (
-  normal-form-below t,
-  normal-form.Post,
-  make-reads.Asked,
-  make-reads.Learnt,
-) (normal-below-at t) normal-below.Post
-normal-below-returns t c = ?
-
--- src/written.rt:120:27
-normal-below-normal-form-requires-2 : (t : ℕ) → normal-below-lts.Need-normal-form-requires-2 (
-  normal-form-below t,
-  normal-form.Post,
-  make-reads.Asked,
-  make-reads.Learnt,
-) (normal-below-at t) normal-below.Post
-normal-below-normal-form-requires-2 t c κs = ?
-
--- src/written.rt:120:18
-normal-below-enum-known-e : (t : ℕ) → normal-below-lts.Need-enum-known-e (
-  normal-form-below t,
-  normal-form.Post,
-  make-reads.Asked,
-  make-reads.Learnt,
-) (normal-below-at t) normal-below.Post
-normal-below-enum-known-e t c = ?
-
--- src/written.rt:121:9
-normal-below-enum-told-2 : (t : ℕ) → normal-below-lts.Need-enum-told-2 (
-  normal-form-below t,
-  normal-form.Post,
-  make-reads.Asked,
-  make-reads.Learnt,
-) (normal-below-at t) normal-below.Post
-normal-below-enum-told-2 t c = ?
-
--- src/written.rt:121:9
-normal-below-same-length-5 : (t : ℕ) → normal-below-lts.Need-same-length-5 (
-  normal-form-below t,
-  normal-form.Post,
-  make-reads.Asked,
-  make-reads.Learnt,
-) (normal-below-at t) normal-below.Post
-normal-below-same-length-5 t c = ?
-
--- src/written.rt:121:9
-normal-below-same-length-6 : (t : ℕ) → normal-below-lts.Need-same-length-6 (
-  normal-form-below t,
-  normal-form.Post,
-  make-reads.Asked,
-  make-reads.Learnt,
-) (normal-below-at t) normal-below.Post
-normal-below-same-length-6 t c = ?
-
--- src/written.rt:121:9
-normal-below-same-length-7 : (t : ℕ) → normal-below-lts.Need-same-length-7 (
-  normal-form-below t,
-  normal-form.Post,
-  make-reads.Asked,
-  make-reads.Learnt,
-) (normal-below-at t) normal-below.Post
-normal-below-same-length-7 t c = ?
-
--- src/written.rt:121:9
-normal-below-same-length-8 : (t : ℕ) → normal-below-lts.Need-same-length-8 (
-  normal-form-below t,
-  normal-form.Post,
-  make-reads.Asked,
-  make-reads.Learnt,
-) (normal-below-at t) normal-below.Post
-normal-below-same-length-8 t c = ?
-
--- src/written.rt:121:9
-normal-below-returns-2 : (t : ℕ) → normal-below-lts.Need-returns-2 (
-  normal-form-below t,
-  normal-form.Post,
-  make-reads.Asked,
-  make-reads.Learnt,
-) (normal-below-at t) normal-below.Post
-normal-below-returns-2 t c = ?
-
--- src/written.rt:123:5
-normal-below-make-requires : (t : ℕ) → normal-below-lts.Need-make-requires (
-  normal-form-below t,
-  normal-form.Post,
-  make-reads.Asked,
-  make-reads.Learnt,
-) (normal-below-at t) normal-below.Post
-normal-below-make-requires t c κs = ?
-
--- src/written.rt:101:1
-normal-below-same-length-9 : (t : ℕ) → normal-below-lts.Need-same-length-9 (
-  normal-form-below t,
-  normal-form.Post,
-  make-reads.Asked,
-  make-reads.Learnt,
-) (normal-below-at t) normal-below.Post
-normal-below-same-length-9 t c = ?
-
--- src/written.rt:101:1
-normal-below-same-length-10 : (t : ℕ) → normal-below-lts.Need-same-length-10 (
-  normal-form-below t,
-  normal-form.Post,
-  make-reads.Asked,
-  make-reads.Learnt,
-) (normal-below-at t) normal-below.Post
-normal-below-same-length-10 t c = ?
-
--- src/written.rt:101:1
-normal-below-same-length-11 : (t : ℕ) → normal-below-lts.Need-same-length-11 (
-  normal-form-below t,
-  normal-form.Post,
-  make-reads.Asked,
-  make-reads.Learnt,
-) (normal-below-at t) normal-below.Post
-normal-below-same-length-11 t c = ?
-
--- src/written.rt:101:1
-normal-below-same-length-12 : (t : ℕ) → normal-below-lts.Need-same-length-12 (
-  normal-form-below t,
-  normal-form.Post,
-  make-reads.Asked,
-  make-reads.Learnt,
-) (normal-below-at t) normal-below.Post
-normal-below-same-length-12 t c = ?
-
--- src/written.rt:101:1
-normal-below-returns-3 : (t : ℕ) → normal-below-lts.Need-returns-3 (
-  normal-form-below t,
-  normal-form.Post,
-  make-reads.Asked,
-  make-reads.Learnt,
-) (normal-below-at t) normal-below.Post
-normal-below-returns-3 t c = ?
-
--- src/written.rt:92:9
-normal-deep-row-of-requires : (t : ℕ) → normal-deep-lts.Need-row-of-requires (
-  row-of-reads.Asked,
-  row-of-reads.Learnt,
-  normal-below-below t,
-  normal-below.Post,
-  normal-meet-below t,
-  normal-meet.Post,
-) (normal-deep-at t) normal-deep.Post
-normal-deep-row-of-requires t c κs = ?
-
--- src/written.rt:93:9
-normal-deep-row-of-requires-2 : (t : ℕ) → normal-deep-lts.Need-row-of-requires-2 (
-  row-of-reads.Asked,
-  row-of-reads.Learnt,
-  normal-below-below t,
-  normal-below.Post,
-  normal-meet-below t,
-  normal-meet.Post,
-) (normal-deep-at t) normal-deep.Post
-normal-deep-row-of-requires-2 t c κs = ?
-
--- src/written.rt:95:9
-normal-deep-normal-below-requires : (t : ℕ) → normal-deep-lts.Need-normal-below-requires (
-  row-of-reads.Asked,
-  row-of-reads.Learnt,
-  normal-below-below t,
-  normal-below.Post,
-  normal-meet-below t,
-  normal-meet.Post,
-) (normal-deep-at t) normal-deep.Post
-normal-deep-normal-below-requires t c κs = ?
-
--- src/written.rt:95:9
-normal-deep-same-length : (t : ℕ) → normal-deep-lts.Need-same-length (
-  row-of-reads.Asked,
-  row-of-reads.Learnt,
-  normal-below-below t,
-  normal-below.Post,
-  normal-meet-below t,
-  normal-meet.Post,
-) (normal-deep-at t) normal-deep.Post
-normal-deep-same-length t c = ?
-
--- src/written.rt:95:9
-normal-deep-same-length-2 : (t : ℕ) → normal-deep-lts.Need-same-length-2 (
-  row-of-reads.Asked,
-  row-of-reads.Learnt,
-  normal-below-below t,
-  normal-below.Post,
-  normal-meet-below t,
-  normal-meet.Post,
-) (normal-deep-at t) normal-deep.Post
-normal-deep-same-length-2 t c = ?
-
--- src/written.rt:95:9
-normal-deep-same-length-3 : (t : ℕ) → normal-deep-lts.Need-same-length-3 (
-  row-of-reads.Asked,
-  row-of-reads.Learnt,
-  normal-below-below t,
-  normal-below.Post,
-  normal-meet-below t,
-  normal-meet.Post,
-) (normal-deep-at t) normal-deep.Post
-normal-deep-same-length-3 t c = ?
-
--- src/written.rt:95:9
-normal-deep-same-length-4 : (t : ℕ) → normal-deep-lts.Need-same-length-4 (
-  row-of-reads.Asked,
-  row-of-reads.Learnt,
-  normal-below-below t,
-  normal-below.Post,
-  normal-meet-below t,
-  normal-meet.Post,
-) (normal-deep-at t) normal-deep.Post
-normal-deep-same-length-4 t c = ?
-
--- src/written.rt:95:9
-normal-deep-returns : (t : ℕ) → normal-deep-lts.Need-returns (
-  row-of-reads.Asked,
-  row-of-reads.Learnt,
-  normal-below-below t,
-  normal-below.Post,
-  normal-meet-below t,
-  normal-meet.Post,
-) (normal-deep-at t) normal-deep.Post
-normal-deep-returns t c = ?
-
--- src/written.rt:97:5
-normal-deep-normal-meet-requires : (t : ℕ) → normal-deep-lts.Need-normal-meet-requires (
-  row-of-reads.Asked,
-  row-of-reads.Learnt,
-  normal-below-below t,
-  normal-below.Post,
-  normal-meet-below t,
-  normal-meet.Post,
-) (normal-deep-at t) normal-deep.Post
-normal-deep-normal-meet-requires t c κs = ?
-
--- src/written.rt:78:1
-normal-deep-same-length-5 : (t : ℕ) → normal-deep-lts.Need-same-length-5 (
-  row-of-reads.Asked,
-  row-of-reads.Learnt,
-  normal-below-below t,
-  normal-below.Post,
-  normal-meet-below t,
-  normal-meet.Post,
-) (normal-deep-at t) normal-deep.Post
-normal-deep-same-length-5 t c = ?
-
--- src/written.rt:78:1
-normal-deep-same-length-6 : (t : ℕ) → normal-deep-lts.Need-same-length-6 (
-  row-of-reads.Asked,
-  row-of-reads.Learnt,
-  normal-below-below t,
-  normal-below.Post,
-  normal-meet-below t,
-  normal-meet.Post,
-) (normal-deep-at t) normal-deep.Post
-normal-deep-same-length-6 t c = ?
-
--- src/written.rt:78:1
-normal-deep-same-length-7 : (t : ℕ) → normal-deep-lts.Need-same-length-7 (
-  row-of-reads.Asked,
-  row-of-reads.Learnt,
-  normal-below-below t,
-  normal-below.Post,
-  normal-meet-below t,
-  normal-meet.Post,
-) (normal-deep-at t) normal-deep.Post
-normal-deep-same-length-7 t c = ?
-
--- src/written.rt:78:1
-normal-deep-same-length-8 : (t : ℕ) → normal-deep-lts.Need-same-length-8 (
-  row-of-reads.Asked,
-  row-of-reads.Learnt,
-  normal-below-below t,
-  normal-below.Post,
-  normal-meet-below t,
-  normal-meet.Post,
-) (normal-deep-at t) normal-deep.Post
-normal-deep-same-length-8 t c = ?
-
--- src/written.rt:78:1
-normal-deep-returns-2 : (t : ℕ) → normal-deep-lts.Need-returns-2 (
-  row-of-reads.Asked,
-  row-of-reads.Learnt,
-  normal-below-below t,
-  normal-below.Post,
-  normal-meet-below t,
-  normal-meet.Post,
-) (normal-deep-at t) normal-deep.Post
-normal-deep-returns-2 t c = ?
-
--- src/written.rt:59:9
-normal-form-returns : (t : ℕ) → normal-form-lts.Need-returns (
-  row-of-reads.Asked,
-  row-of-reads.Learnt,
-  lead-at-reads.Asked,
-  lead-at-reads.Learnt,
-  key-reads.Asked,
-  key-reads.Learnt,
-  recall-reads.Asked,
-  recall-reads.Learnt,
-  normal-deep-below t,
-  normal-deep.Post,
-  remember-reads.Asked,
-  remember-reads.Learnt,
-) (normal-form-at t) normal-form.Post
-normal-form-returns t c = ?
-
--- src/written.rt:61:13
-normal-form-row-of-requires : (t : ℕ) → normal-form-lts.Need-row-of-requires (
-  row-of-reads.Asked,
-  row-of-reads.Learnt,
-  lead-at-reads.Asked,
-  lead-at-reads.Learnt,
-  key-reads.Asked,
-  key-reads.Learnt,
-  recall-reads.Asked,
-  recall-reads.Learnt,
-  normal-deep-below t,
-  normal-deep.Post,
-  remember-reads.Asked,
-  remember-reads.Learnt,
-) (normal-form-at t) normal-form.Post
-normal-form-row-of-requires t c κs = ?
-
--- src/written.rt:62:9
-normal-form-lead-at-requires : (t : ℕ) → normal-form-lts.Need-lead-at-requires (
-  row-of-reads.Asked,
-  row-of-reads.Learnt,
-  lead-at-reads.Asked,
-  lead-at-reads.Learnt,
-  key-reads.Asked,
-  key-reads.Learnt,
-  recall-reads.Asked,
-  recall-reads.Learnt,
-  normal-deep-below t,
-  normal-deep.Post,
-  remember-reads.Asked,
-  remember-reads.Learnt,
-) (normal-form-at t) normal-form.Post
-normal-form-lead-at-requires t c κs = ?
-
--- src/written.rt:64:9
-normal-form-same-length : (t : ℕ) → normal-form-lts.Need-same-length (
-  row-of-reads.Asked,
-  row-of-reads.Learnt,
-  lead-at-reads.Asked,
-  lead-at-reads.Learnt,
-  key-reads.Asked,
-  key-reads.Learnt,
-  recall-reads.Asked,
-  recall-reads.Learnt,
-  normal-deep-below t,
-  normal-deep.Post,
-  remember-reads.Asked,
-  remember-reads.Learnt,
-) (normal-form-at t) normal-form.Post
-normal-form-same-length t c = ?
-
--- src/written.rt:64:9
-normal-form-same-length-2 : (t : ℕ) → normal-form-lts.Need-same-length-2 (
-  row-of-reads.Asked,
-  row-of-reads.Learnt,
-  lead-at-reads.Asked,
-  lead-at-reads.Learnt,
-  key-reads.Asked,
-  key-reads.Learnt,
-  recall-reads.Asked,
-  recall-reads.Learnt,
-  normal-deep-below t,
-  normal-deep.Post,
-  remember-reads.Asked,
-  remember-reads.Learnt,
-) (normal-form-at t) normal-form.Post
-normal-form-same-length-2 t c = ?
-
--- src/written.rt:64:9
-normal-form-same-length-3 : (t : ℕ) → normal-form-lts.Need-same-length-3 (
-  row-of-reads.Asked,
-  row-of-reads.Learnt,
-  lead-at-reads.Asked,
-  lead-at-reads.Learnt,
-  key-reads.Asked,
-  key-reads.Learnt,
-  recall-reads.Asked,
-  recall-reads.Learnt,
-  normal-deep-below t,
-  normal-deep.Post,
-  remember-reads.Asked,
-  remember-reads.Learnt,
-) (normal-form-at t) normal-form.Post
-normal-form-same-length-3 t c = ?
-
--- src/written.rt:64:9
-normal-form-same-length-4 : (t : ℕ) → normal-form-lts.Need-same-length-4 (
-  row-of-reads.Asked,
-  row-of-reads.Learnt,
-  lead-at-reads.Asked,
-  lead-at-reads.Learnt,
-  key-reads.Asked,
-  key-reads.Learnt,
-  recall-reads.Asked,
-  recall-reads.Learnt,
-  normal-deep-below t,
-  normal-deep.Post,
-  remember-reads.Asked,
-  remember-reads.Learnt,
-) (normal-form-at t) normal-form.Post
-normal-form-same-length-4 t c = ?
-
--- src/written.rt:64:9
-normal-form-returns-2 : (t : ℕ) → normal-form-lts.Need-returns-2 (
-  row-of-reads.Asked,
-  row-of-reads.Learnt,
-  lead-at-reads.Asked,
-  lead-at-reads.Learnt,
-  key-reads.Asked,
-  key-reads.Learnt,
-  recall-reads.Asked,
-  recall-reads.Learnt,
-  normal-deep-below t,
-  normal-deep.Post,
-  remember-reads.Asked,
-  remember-reads.Learnt,
-) (normal-form-at t) normal-form.Post
-normal-form-returns-2 t c = ?
-
--- src/written.rt:66:9
-normal-form-key-requires : (t : ℕ) → normal-form-lts.Need-key-requires (
-  row-of-reads.Asked,
-  row-of-reads.Learnt,
-  lead-at-reads.Asked,
-  lead-at-reads.Learnt,
-  key-reads.Asked,
-  key-reads.Learnt,
-  recall-reads.Asked,
-  recall-reads.Learnt,
-  normal-deep-below t,
-  normal-deep.Post,
-  remember-reads.Asked,
-  remember-reads.Learnt,
-) (normal-form-at t) normal-form.Post
-normal-form-key-requires t c κs = ?
-
--- src/written.rt:67:30
-normal-form-recall-requires : (t : ℕ) → normal-form-lts.Need-recall-requires (
-  row-of-reads.Asked,
-  row-of-reads.Learnt,
-  lead-at-reads.Asked,
-  lead-at-reads.Learnt,
-  key-reads.Asked,
-  key-reads.Learnt,
-  recall-reads.Asked,
-  recall-reads.Learnt,
-  normal-deep-below t,
-  normal-deep.Post,
-  remember-reads.Asked,
-  remember-reads.Learnt,
-) (normal-form-at t) normal-form.Post
-normal-form-recall-requires t c κs = ?
-
--- src/written.rt:67:25
-normal-form-enum-known-k : (t : ℕ) → normal-form-lts.Need-enum-known-k (
-  row-of-reads.Asked,
-  row-of-reads.Learnt,
-  lead-at-reads.Asked,
-  lead-at-reads.Learnt,
-  key-reads.Asked,
-  key-reads.Learnt,
-  recall-reads.Asked,
-  recall-reads.Learnt,
-  normal-deep-below t,
-  normal-deep.Post,
-  remember-reads.Asked,
-  remember-reads.Learnt,
-) (normal-form-at t) normal-form.Post
-normal-form-enum-known-k t c = ?
-
--- src/written.rt:68:9
-normal-form-same-length-5 : (t : ℕ) → normal-form-lts.Need-same-length-5 (
-  row-of-reads.Asked,
-  row-of-reads.Learnt,
-  lead-at-reads.Asked,
-  lead-at-reads.Learnt,
-  key-reads.Asked,
-  key-reads.Learnt,
-  recall-reads.Asked,
-  recall-reads.Learnt,
-  normal-deep-below t,
-  normal-deep.Post,
-  remember-reads.Asked,
-  remember-reads.Learnt,
-) (normal-form-at t) normal-form.Post
-normal-form-same-length-5 t c = ?
-
--- src/written.rt:68:9
-normal-form-same-length-6 : (t : ℕ) → normal-form-lts.Need-same-length-6 (
-  row-of-reads.Asked,
-  row-of-reads.Learnt,
-  lead-at-reads.Asked,
-  lead-at-reads.Learnt,
-  key-reads.Asked,
-  key-reads.Learnt,
-  recall-reads.Asked,
-  recall-reads.Learnt,
-  normal-deep-below t,
-  normal-deep.Post,
-  remember-reads.Asked,
-  remember-reads.Learnt,
-) (normal-form-at t) normal-form.Post
-normal-form-same-length-6 t c = ?
-
--- src/written.rt:68:9
-normal-form-same-length-7 : (t : ℕ) → normal-form-lts.Need-same-length-7 (
-  row-of-reads.Asked,
-  row-of-reads.Learnt,
-  lead-at-reads.Asked,
-  lead-at-reads.Learnt,
-  key-reads.Asked,
-  key-reads.Learnt,
-  recall-reads.Asked,
-  recall-reads.Learnt,
-  normal-deep-below t,
-  normal-deep.Post,
-  remember-reads.Asked,
-  remember-reads.Learnt,
-) (normal-form-at t) normal-form.Post
-normal-form-same-length-7 t c = ?
-
--- src/written.rt:68:9
-normal-form-same-length-8 : (t : ℕ) → normal-form-lts.Need-same-length-8 (
-  row-of-reads.Asked,
-  row-of-reads.Learnt,
-  lead-at-reads.Asked,
-  lead-at-reads.Learnt,
-  key-reads.Asked,
-  key-reads.Learnt,
-  recall-reads.Asked,
-  recall-reads.Learnt,
-  normal-deep-below t,
-  normal-deep.Post,
-  remember-reads.Asked,
-  remember-reads.Learnt,
-) (normal-form-at t) normal-form.Post
-normal-form-same-length-8 t c = ?
-
--- src/written.rt:68:9
-normal-form-returns-3 : (t : ℕ) → normal-form-lts.Need-returns-3 (
-  row-of-reads.Asked,
-  row-of-reads.Learnt,
-  lead-at-reads.Asked,
-  lead-at-reads.Learnt,
-  key-reads.Asked,
-  key-reads.Learnt,
-  recall-reads.Asked,
-  recall-reads.Learnt,
-  normal-deep-below t,
-  normal-deep.Post,
-  remember-reads.Asked,
-  remember-reads.Learnt,
-) (normal-form-at t) normal-form.Post
-normal-form-returns-3 t c = ?
-
-normal-form-enum-told : (t : ℕ) → normal-form-lts.Need-enum-told (
-  row-of-reads.Asked,
-  row-of-reads.Learnt,
-  lead-at-reads.Asked,
-  lead-at-reads.Learnt,
-  key-reads.Asked,
-  key-reads.Learnt,
-  recall-reads.Asked,
-  recall-reads.Learnt,
-  normal-deep-below t,
-  normal-deep.Post,
-  remember-reads.Asked,
-  remember-reads.Learnt,
-) (normal-form-at t) normal-form.Post
-normal-form-enum-told t c = ?
-
--- src/written.rt:70:26
-normal-form-normal-deep-requires : (t : ℕ) → normal-form-lts.Need-normal-deep-requires (
-  row-of-reads.Asked,
-  row-of-reads.Learnt,
-  lead-at-reads.Asked,
-  lead-at-reads.Learnt,
-  key-reads.Asked,
-  key-reads.Learnt,
-  recall-reads.Asked,
-  recall-reads.Learnt,
-  normal-deep-below t,
-  normal-deep.Post,
-  remember-reads.Asked,
-  remember-reads.Learnt,
-) (normal-form-at t) normal-form.Post
-normal-form-normal-deep-requires t c κs = ?
-
--- src/written.rt:70:18
-normal-form-enum-known-k-2 : (t : ℕ) → normal-form-lts.Need-enum-known-k-2 (
-  row-of-reads.Asked,
-  row-of-reads.Learnt,
-  lead-at-reads.Asked,
-  lead-at-reads.Learnt,
-  key-reads.Asked,
-  key-reads.Learnt,
-  recall-reads.Asked,
-  recall-reads.Learnt,
-  normal-deep-below t,
-  normal-deep.Post,
-  remember-reads.Asked,
-  remember-reads.Learnt,
-) (normal-form-at t) normal-form.Post
-normal-form-enum-known-k-2 t c = ?
-
--- src/written.rt:71:9
-normal-form-enum-told-2 : (t : ℕ) → normal-form-lts.Need-enum-told-2 (
-  row-of-reads.Asked,
-  row-of-reads.Learnt,
-  lead-at-reads.Asked,
-  lead-at-reads.Learnt,
-  key-reads.Asked,
-  key-reads.Learnt,
-  recall-reads.Asked,
-  recall-reads.Learnt,
-  normal-deep-below t,
-  normal-deep.Post,
-  remember-reads.Asked,
-  remember-reads.Learnt,
-) (normal-form-at t) normal-form.Post
-normal-form-enum-told-2 t c = ?
-
--- src/written.rt:71:9
-normal-form-same-length-9 : (t : ℕ) → normal-form-lts.Need-same-length-9 (
-  row-of-reads.Asked,
-  row-of-reads.Learnt,
-  lead-at-reads.Asked,
-  lead-at-reads.Learnt,
-  key-reads.Asked,
-  key-reads.Learnt,
-  recall-reads.Asked,
-  recall-reads.Learnt,
-  normal-deep-below t,
-  normal-deep.Post,
-  remember-reads.Asked,
-  remember-reads.Learnt,
-) (normal-form-at t) normal-form.Post
-normal-form-same-length-9 t c = ?
-
--- src/written.rt:71:9
-normal-form-same-length-10 : (t : ℕ) → normal-form-lts.Need-same-length-10 (
-  row-of-reads.Asked,
-  row-of-reads.Learnt,
-  lead-at-reads.Asked,
-  lead-at-reads.Learnt,
-  key-reads.Asked,
-  key-reads.Learnt,
-  recall-reads.Asked,
-  recall-reads.Learnt,
-  normal-deep-below t,
-  normal-deep.Post,
-  remember-reads.Asked,
-  remember-reads.Learnt,
-) (normal-form-at t) normal-form.Post
-normal-form-same-length-10 t c = ?
-
--- src/written.rt:71:9
-normal-form-same-length-11 : (t : ℕ) → normal-form-lts.Need-same-length-11 (
-  row-of-reads.Asked,
-  row-of-reads.Learnt,
-  lead-at-reads.Asked,
-  lead-at-reads.Learnt,
-  key-reads.Asked,
-  key-reads.Learnt,
-  recall-reads.Asked,
-  recall-reads.Learnt,
-  normal-deep-below t,
-  normal-deep.Post,
-  remember-reads.Asked,
-  remember-reads.Learnt,
-) (normal-form-at t) normal-form.Post
-normal-form-same-length-11 t c = ?
-
--- src/written.rt:71:9
-normal-form-same-length-12 : (t : ℕ) → normal-form-lts.Need-same-length-12 (
-  row-of-reads.Asked,
-  row-of-reads.Learnt,
-  lead-at-reads.Asked,
-  lead-at-reads.Learnt,
-  key-reads.Asked,
-  key-reads.Learnt,
-  recall-reads.Asked,
-  recall-reads.Learnt,
-  normal-deep-below t,
-  normal-deep.Post,
-  remember-reads.Asked,
-  remember-reads.Learnt,
-) (normal-form-at t) normal-form.Post
-normal-form-same-length-12 t c = ?
-
--- src/written.rt:71:9
-normal-form-returns-4 : (t : ℕ) → normal-form-lts.Need-returns-4 (
-  row-of-reads.Asked,
-  row-of-reads.Learnt,
-  lead-at-reads.Asked,
-  lead-at-reads.Learnt,
-  key-reads.Asked,
-  key-reads.Learnt,
-  recall-reads.Asked,
-  recall-reads.Learnt,
-  normal-deep-below t,
-  normal-deep.Post,
-  remember-reads.Asked,
-  remember-reads.Learnt,
-) (normal-form-at t) normal-form.Post
-normal-form-returns-4 t c = ?
-
--- src/written.rt:73:5
-normal-form-remember-requires : (t : ℕ) → normal-form-lts.Need-remember-requires (
-  row-of-reads.Asked,
-  row-of-reads.Learnt,
-  lead-at-reads.Asked,
-  lead-at-reads.Learnt,
-  key-reads.Asked,
-  key-reads.Learnt,
-  recall-reads.Asked,
-  recall-reads.Learnt,
-  normal-deep-below t,
-  normal-deep.Post,
-  remember-reads.Asked,
-  remember-reads.Learnt,
-) (normal-form-at t) normal-form.Post
-normal-form-remember-requires t c κs = ?
-
--- src/written.rt:45:1
-normal-form-same-length-13 : (t : ℕ) → normal-form-lts.Need-same-length-13 (
-  row-of-reads.Asked,
-  row-of-reads.Learnt,
-  lead-at-reads.Asked,
-  lead-at-reads.Learnt,
-  key-reads.Asked,
-  key-reads.Learnt,
-  recall-reads.Asked,
-  recall-reads.Learnt,
-  normal-deep-below t,
-  normal-deep.Post,
-  remember-reads.Asked,
-  remember-reads.Learnt,
-) (normal-form-at t) normal-form.Post
-normal-form-same-length-13 t c = ?
-
--- src/written.rt:45:1
-normal-form-same-length-14 : (t : ℕ) → normal-form-lts.Need-same-length-14 (
-  row-of-reads.Asked,
-  row-of-reads.Learnt,
-  lead-at-reads.Asked,
-  lead-at-reads.Learnt,
-  key-reads.Asked,
-  key-reads.Learnt,
-  recall-reads.Asked,
-  recall-reads.Learnt,
-  normal-deep-below t,
-  normal-deep.Post,
-  remember-reads.Asked,
-  remember-reads.Learnt,
-) (normal-form-at t) normal-form.Post
-normal-form-same-length-14 t c = ?
-
--- src/written.rt:45:1
-normal-form-same-length-15 : (t : ℕ) → normal-form-lts.Need-same-length-15 (
-  row-of-reads.Asked,
-  row-of-reads.Learnt,
-  lead-at-reads.Asked,
-  lead-at-reads.Learnt,
-  key-reads.Asked,
-  key-reads.Learnt,
-  recall-reads.Asked,
-  recall-reads.Learnt,
-  normal-deep-below t,
-  normal-deep.Post,
-  remember-reads.Asked,
-  remember-reads.Learnt,
-) (normal-form-at t) normal-form.Post
-normal-form-same-length-15 t c = ?
-
--- src/written.rt:45:1
-normal-form-same-length-16 : (t : ℕ) → normal-form-lts.Need-same-length-16 (
-  row-of-reads.Asked,
-  row-of-reads.Learnt,
-  lead-at-reads.Asked,
-  lead-at-reads.Learnt,
-  key-reads.Asked,
-  key-reads.Learnt,
-  recall-reads.Asked,
-  recall-reads.Learnt,
-  normal-deep-below t,
-  normal-deep.Post,
-  remember-reads.Asked,
-  remember-reads.Learnt,
-) (normal-form-at t) normal-form.Post
-normal-form-same-length-16 t c = ?
-
--- src/written.rt:45:1
-normal-form-returns-5 : (t : ℕ) → normal-form-lts.Need-returns-5 (
-  row-of-reads.Asked,
-  row-of-reads.Learnt,
-  lead-at-reads.Asked,
-  lead-at-reads.Learnt,
-  key-reads.Asked,
-  key-reads.Learnt,
-  recall-reads.Asked,
-  recall-reads.Learnt,
-  normal-deep-below t,
-  normal-deep.Post,
-  remember-reads.Asked,
-  remember-reads.Learnt,
-) (normal-form-at t) normal-form.Post
-normal-form-returns-5 t c = ?
-
--- src/written.rt:143:27
-normal-meet-normal-form-requires : (t : ℕ) → normal-meet-lts.Need-normal-form-requires (
-  normal-form-below t,
-  normal-form.Post,
-  meet-rest-below t,
-  meet-rest.Post,
-) (normal-meet-at t) normal-meet.Post
-normal-meet-normal-form-requires t c κs = ?
-
--- src/written.rt:143:18
-normal-meet-enum-known-a : (t : ℕ) → normal-meet-lts.Need-enum-known-a (
-  normal-form-below t,
-  normal-form.Post,
-  meet-rest-below t,
-  meet-rest.Post,
-) (normal-meet-at t) normal-meet.Post
-normal-meet-enum-known-a t c = ?
-
--- src/written.rt:144:9
-normal-meet-enum-told : (t : ℕ) → normal-meet-lts.Need-enum-told (
-  normal-form-below t,
-  normal-form.Post,
-  meet-rest-below t,
-  meet-rest.Post,
-) (normal-meet-at t) normal-meet.Post
-normal-meet-enum-told t c = ?
-
--- src/written.rt:144:9
-normal-meet-same-length : (t : ℕ) → normal-meet-lts.Need-same-length (
-  normal-form-below t,
-  normal-form.Post,
-  meet-rest-below t,
-  meet-rest.Post,
-) (normal-meet-at t) normal-meet.Post
-normal-meet-same-length t c = ?
-
--- src/written.rt:144:9
-normal-meet-same-length-2 : (t : ℕ) → normal-meet-lts.Need-same-length-2 (
-  normal-form-below t,
-  normal-form.Post,
-  meet-rest-below t,
-  meet-rest.Post,
-) (normal-meet-at t) normal-meet.Post
-normal-meet-same-length-2 t c = ?
-
--- src/written.rt:144:9
-normal-meet-same-length-3 : (t : ℕ) → normal-meet-lts.Need-same-length-3 (
-  normal-form-below t,
-  normal-form.Post,
-  meet-rest-below t,
-  meet-rest.Post,
-) (normal-meet-at t) normal-meet.Post
-normal-meet-same-length-3 t c = ?
-
--- src/written.rt:144:9
-normal-meet-same-length-4 : (t : ℕ) → normal-meet-lts.Need-same-length-4 (
-  normal-form-below t,
-  normal-form.Post,
-  meet-rest-below t,
-  meet-rest.Post,
-) (normal-meet-at t) normal-meet.Post
-normal-meet-same-length-4 t c = ?
-
--- src/written.rt:144:9
-normal-meet-returns : (t : ℕ) → normal-meet-lts.Need-returns (
-  normal-form-below t,
-  normal-form.Post,
-  meet-rest-below t,
-  meet-rest.Post,
-) (normal-meet-at t) normal-meet.Post
-normal-meet-returns t c = ?
-
--- src/written.rt:146:27
-normal-meet-normal-form-requires-2 : (t : ℕ) → normal-meet-lts.Need-normal-form-requires-2 (
-  normal-form-below t,
-  normal-form.Post,
-  meet-rest-below t,
-  meet-rest.Post,
-) (normal-meet-at t) normal-meet.Post
-normal-meet-normal-form-requires-2 t c κs = ?
-
--- src/written.rt:146:18
-normal-meet-enum-known-b : (t : ℕ) → normal-meet-lts.Need-enum-known-b (
-  normal-form-below t,
-  normal-form.Post,
-  meet-rest-below t,
-  meet-rest.Post,
-) (normal-meet-at t) normal-meet.Post
-normal-meet-enum-known-b t c = ?
-
--- src/written.rt:147:9
-normal-meet-enum-told-2 : (t : ℕ) → normal-meet-lts.Need-enum-told-2 (
-  normal-form-below t,
-  normal-form.Post,
-  meet-rest-below t,
-  meet-rest.Post,
-) (normal-meet-at t) normal-meet.Post
-normal-meet-enum-told-2 t c = ?
-
--- src/written.rt:147:9
-normal-meet-same-length-5 : (t : ℕ) → normal-meet-lts.Need-same-length-5 (
-  normal-form-below t,
-  normal-form.Post,
-  meet-rest-below t,
-  meet-rest.Post,
-) (normal-meet-at t) normal-meet.Post
-normal-meet-same-length-5 t c = ?
-
--- src/written.rt:147:9
-normal-meet-same-length-6 : (t : ℕ) → normal-meet-lts.Need-same-length-6 (
-  normal-form-below t,
-  normal-form.Post,
-  meet-rest-below t,
-  meet-rest.Post,
-) (normal-meet-at t) normal-meet.Post
-normal-meet-same-length-6 t c = ?
-
--- src/written.rt:147:9
-normal-meet-same-length-7 : (t : ℕ) → normal-meet-lts.Need-same-length-7 (
-  normal-form-below t,
-  normal-form.Post,
-  meet-rest-below t,
-  meet-rest.Post,
-) (normal-meet-at t) normal-meet.Post
-normal-meet-same-length-7 t c = ?
-
--- src/written.rt:147:9
-normal-meet-same-length-8 : (t : ℕ) → normal-meet-lts.Need-same-length-8 (
-  normal-form-below t,
-  normal-form.Post,
-  meet-rest-below t,
-  meet-rest.Post,
-) (normal-meet-at t) normal-meet.Post
-normal-meet-same-length-8 t c = ?
-
--- src/written.rt:147:9
-normal-meet-returns-2 : (t : ℕ) → normal-meet-lts.Need-returns-2 (
-  normal-form-below t,
-  normal-form.Post,
-  meet-rest-below t,
-  meet-rest.Post,
-) (normal-meet-at t) normal-meet.Post
-normal-meet-returns-2 t c = ?
-
--- src/written.rt:149:5
-normal-meet-meet-rest-requires : (t : ℕ) → normal-meet-lts.Need-meet-rest-requires (
-  normal-form-below t,
-  normal-form.Post,
-  meet-rest-below t,
-  meet-rest.Post,
-) (normal-meet-at t) normal-meet.Post
-normal-meet-meet-rest-requires t c κs = ?
-
--- src/written.rt:127:1
-normal-meet-same-length-9 : (t : ℕ) → normal-meet-lts.Need-same-length-9 (
-  normal-form-below t,
-  normal-form.Post,
-  meet-rest-below t,
-  meet-rest.Post,
-) (normal-meet-at t) normal-meet.Post
-normal-meet-same-length-9 t c = ?
-
--- src/written.rt:127:1
-normal-meet-same-length-10 : (t : ℕ) → normal-meet-lts.Need-same-length-10 (
-  normal-form-below t,
-  normal-form.Post,
-  meet-rest-below t,
-  meet-rest.Post,
-) (normal-meet-at t) normal-meet.Post
-normal-meet-same-length-10 t c = ?
-
--- src/written.rt:127:1
-normal-meet-same-length-11 : (t : ℕ) → normal-meet-lts.Need-same-length-11 (
-  normal-form-below t,
-  normal-form.Post,
-  meet-rest-below t,
-  meet-rest.Post,
-) (normal-meet-at t) normal-meet.Post
-normal-meet-same-length-11 t c = ?
-
--- src/written.rt:127:1
-normal-meet-same-length-12 : (t : ℕ) → normal-meet-lts.Need-same-length-12 (
-  normal-form-below t,
-  normal-form.Post,
-  meet-rest-below t,
-  meet-rest.Post,
-) (normal-meet-at t) normal-meet.Post
-normal-meet-same-length-12 t c = ?
-
--- src/written.rt:127:1
-normal-meet-returns-3 : (t : ℕ) → normal-meet-lts.Need-returns-3 (
-  normal-form-below t,
-  normal-form.Post,
-  meet-rest-below t,
-  meet-rest.Post,
-) (normal-meet-at t) normal-meet.Post
-normal-meet-returns-3 t c = ?
+abbrev meet-rest-calls : ℕ → meet-rest-lts.Claims
+meet-rest-calls t = (normal-form-below t, normal-form.Post, join-reads.Asked, join-reads.Learnt)
+
+abbrev normal-below-calls : ℕ → normal-below-lts.Claims
+normal-below-calls t = (normal-form-below t, normal-form.Post, make-reads.Asked, make-reads.Learnt)
+
+abbrev normal-deep-calls : ℕ → normal-deep-lts.Claims
+normal-deep-calls t = (row-of-reads.Asked, row-of-reads.Learnt, normal-below-below t, normal-below.Post, normal-meet-below t, normal-meet.Post)
+
+abbrev normal-form-calls : ℕ → normal-form-lts.Claims
+normal-form-calls t = (row-of-reads.Asked, row-of-reads.Learnt, lead-at-reads.Asked, lead-at-reads.Learnt, key-reads.Asked, key-reads.Learnt, recall-reads.Asked, recall-reads.Learnt, normal-deep-below t, normal-deep.Post, remember-reads.Asked, remember-reads.Learnt)
+
+abbrev normal-meet-calls : ℕ → normal-meet-lts.Claims
+normal-meet-calls t = (normal-form-below t, normal-form.Post, meet-rest-below t, meet-rest.Post)
+
+meet-rest-normal-form-requires : (t : ℕ) → meet-rest-lts.Need-normal-form-requires (meet-rest-calls t) (meet-rest-at t) meet-rest.Post
+meet-rest-normal-form-requires t c κs = let c9 = c .before .before .before .before .before .before .before .before .before in rest-asks _ _ _ _ _ _ _ _ _ (c9 .pre .1) _ (c9 .pre .0)
+
+meet-rest-enum-known-c : (t : ℕ) → meet-rest-lts.Need-enum-known-c (meet-rest-calls t) (meet-rest-at t) meet-rest.Post
+meet-rest-enum-known-c t c = search needs
+
+meet-rest-enum-told : (t : ℕ) → meet-rest-lts.Need-enum-told (meet-rest-calls t) (meet-rest-at t) meet-rest.Post
+meet-rest-enum-told t c = search needs
+
+meet-rest-same-length : (t : ℕ) → meet-rest-lts.Need-same-length (meet-rest-calls t) (meet-rest-at t) meet-rest.Post
+meet-rest-same-length t c = let c10 = c .before .before .before .before .before .before .before .before .before .before in (c10 .normal-form .ensures .taken .vars)
+
+meet-rest-same-length-2 : (t : ℕ) → meet-rest-lts.Need-same-length-2 (meet-rest-calls t) (meet-rest-at t) meet-rest.Post
+meet-rest-same-length-2 t c = let c10 = c .before .before .before .before .before .before .before .before .before .before in (c10 .normal-form .ensures .taken .thens)
+
+meet-rest-same-length-3 : (t : ℕ) → meet-rest-lts.Need-same-length-3 (meet-rest-calls t) (meet-rest-at t) meet-rest.Post
+meet-rest-same-length-3 t c = let c10 = c .before .before .before .before .before .before .before .before .before .before in (c10 .normal-form .ensures .taken .elses)
+
+meet-rest-same-length-4 : (t : ℕ) → meet-rest-lts.Need-same-length-4 (meet-rest-calls t) (meet-rest-at t) meet-rest.Post
+meet-rest-same-length-4 t c = let c10 = c .before .before .before .before .before .before .before .before .before .before in (c10 .normal-form .ensures .behind .same-length)
+
+meet-rest-returns : (t : ℕ) → meet-rest-lts.Need-returns (meet-rest-calls t) (meet-rest-at t) meet-rest.Post
+meet-rest-returns t c = let c10 = c .before .before .before .before .before .before .before .before .before .before in let c20 = c10 .before .before .before .before .before .before .before .before .before .before in rest-full _ _ _ _ _ _ _ _ _ (c20 .pre .1) (kept-is (c .enum-told .given .1) (c10 .normal-form .ensures))
+
+meet-rest-join-requires : (t : ℕ) → meet-rest-lts.Need-join-requires (meet-rest-calls t) (meet-rest-at t) meet-rest.Post
+meet-rest-join-requires t c κs = let c5 = c .before .before .before .before .before in let c15 = c5 .before .before .before .before .before .before .before .before .before .before in let c25 = c15 .before .before .before .before .before .before .before .before .before .before in rest-joins _ _ _ _ _ _ _ _ _ (c25 .pre .1) _ _ _ _ (kept-is (c5 .c .given .1) (c15 .normal-form .ensures))
+
+meet-rest-same-length-5 : (t : ℕ) → meet-rest-lts.Need-same-length-5 (meet-rest-calls t) (meet-rest-at t) meet-rest.Post
+meet-rest-same-length-5 t c = let c8 = c .before .before .before .before .before .before .before .before in let c24 = c8 .before .before .before .before .before .before .before .before .before .before .before .before .before .before .before .before in (c8 .join .ensures .taken .vars) ∙ (c24 .normal-form .ensures .taken .vars)
+
+meet-rest-same-length-6 : (t : ℕ) → meet-rest-lts.Need-same-length-6 (meet-rest-calls t) (meet-rest-at t) meet-rest.Post
+meet-rest-same-length-6 t c = let c8 = c .before .before .before .before .before .before .before .before in let c24 = c8 .before .before .before .before .before .before .before .before .before .before .before .before .before .before .before .before in (c8 .join .ensures .taken .thens) ∙ (c24 .normal-form .ensures .taken .thens)
+
+meet-rest-same-length-7 : (t : ℕ) → meet-rest-lts.Need-same-length-7 (meet-rest-calls t) (meet-rest-at t) meet-rest.Post
+meet-rest-same-length-7 t c = let c8 = c .before .before .before .before .before .before .before .before in let c24 = c8 .before .before .before .before .before .before .before .before .before .before .before .before .before .before .before .before in (c8 .join .ensures .taken .elses) ∙ (c24 .normal-form .ensures .taken .elses)
+
+meet-rest-same-length-8 : (t : ℕ) → meet-rest-lts.Need-same-length-8 (meet-rest-calls t) (meet-rest-at t) meet-rest.Post
+meet-rest-same-length-8 t c = let c8 = c .before .before .before .before .before .before .before .before in let c24 = c8 .before .before .before .before .before .before .before .before .before .before .before .before .before .before .before .before in (c8 .join .ensures .behind .same-length) ∙ (c24 .normal-form .ensures .behind .same-length)
+
+meet-rest-returns-2 : (t : ℕ) → meet-rest-lts.Need-returns-2 (meet-rest-calls t) (meet-rest-at t) meet-rest.Post
+meet-rest-returns-2 t c = let c8 = c .before .before .before .before .before .before .before .before in let c14 = c8 .before .before .before .before .before .before in let c24 = c14 .before .before .before .before .before .before .before .before .before .before in let c34 = c24 .before .before .before .before .before .before .before .before .before .before in rest-done _ _ _ _ _ _ _ _ _ (c34 .pre .1) _ _ _ _ (kept-is (c14 .c .given .1) (c24 .normal-form .ensures)) (c8 .join .ensures)
+
+normal-below-normal-form-requires : (t : ℕ) → normal-below-lts.Need-normal-form-requires (normal-below-calls t) (normal-below-at t) normal-below.Post
+normal-below-normal-form-requires t c κs = let c11 = c .before .before .before .before .before .before .before .before .before .before .before in then-asks _ _ _ _ _ _ _ _ (c11 .pre .1) _ (c11 .pre .0)
+
+normal-below-enum-known-t : (t : ℕ) → normal-below-lts.Need-enum-known-t (normal-below-calls t) (normal-below-at t) normal-below.Post
+normal-below-enum-known-t t c = search needs
+
+normal-below-enum-told : (t : ℕ) → normal-below-lts.Need-enum-told (normal-below-calls t) (normal-below-at t) normal-below.Post
+normal-below-enum-told t c = search needs
+
+normal-below-same-length : (t : ℕ) → normal-below-lts.Need-same-length (normal-below-calls t) (normal-below-at t) normal-below.Post
+normal-below-same-length t c = let c10 = c .before .before .before .before .before .before .before .before .before .before in (c10 .normal-form .ensures .taken .vars)
+
+normal-below-same-length-2 : (t : ℕ) → normal-below-lts.Need-same-length-2 (normal-below-calls t) (normal-below-at t) normal-below.Post
+normal-below-same-length-2 t c = let c10 = c .before .before .before .before .before .before .before .before .before .before in (c10 .normal-form .ensures .taken .thens)
+
+normal-below-same-length-3 : (t : ℕ) → normal-below-lts.Need-same-length-3 (normal-below-calls t) (normal-below-at t) normal-below.Post
+normal-below-same-length-3 t c = let c10 = c .before .before .before .before .before .before .before .before .before .before in (c10 .normal-form .ensures .taken .elses)
+
+normal-below-same-length-4 : (t : ℕ) → normal-below-lts.Need-same-length-4 (normal-below-calls t) (normal-below-at t) normal-below.Post
+normal-below-same-length-4 t c = let c10 = c .before .before .before .before .before .before .before .before .before .before in (c10 .normal-form .ensures .behind .same-length)
+
+normal-below-returns : (t : ℕ) → normal-below-lts.Need-returns (normal-below-calls t) (normal-below-at t) normal-below.Post
+normal-below-returns t c = let c10 = c .before .before .before .before .before .before .before .before .before .before in let c22 = c10 .before .before .before .before .before .before .before .before .before .before .before .before in then-full _ _ _ _ _ _ _ _ (c22 .pre .1) (kept-is (c .enum-told .given .1) (c10 .normal-form .ensures))
+
+normal-below-normal-form-requires-2 : (t : ℕ) → normal-below-lts.Need-normal-form-requires-2 (normal-below-calls t) (normal-below-at t) normal-below.Post
+normal-below-normal-form-requires-2 t c κs = let c5 = c .before .before .before .before .before in let c15 = c5 .before .before .before .before .before .before .before .before .before .before in let c27 = c15 .before .before .before .before .before .before .before .before .before .before .before .before in else-asks _ _ _ _ _ _ _ _ (c27 .pre .1) _ _ _ _ (kept-is (c5 .t .given .1) (c15 .normal-form .ensures)) _ (c27 .pre .0)
+
+normal-below-enum-known-e : (t : ℕ) → normal-below-lts.Need-enum-known-e (normal-below-calls t) (normal-below-at t) normal-below.Post
+normal-below-enum-known-e t c = search needs
+
+normal-below-enum-told-2 : (t : ℕ) → normal-below-lts.Need-enum-told-2 (normal-below-calls t) (normal-below-at t) normal-below.Post
+normal-below-enum-told-2 t c = search needs
+
+normal-below-same-length-5 : (t : ℕ) → normal-below-lts.Need-same-length-5 (normal-below-calls t) (normal-below-at t) normal-below.Post
+normal-below-same-length-5 t c = let c10 = c .before .before .before .before .before .before .before .before .before .before in let c26 = c10 .before .before .before .before .before .before .before .before .before .before .before .before .before .before .before .before in (c10 .normal-form2 .ensures .taken .vars) ∙ (c26 .normal-form .ensures .taken .vars)
+
+normal-below-same-length-6 : (t : ℕ) → normal-below-lts.Need-same-length-6 (normal-below-calls t) (normal-below-at t) normal-below.Post
+normal-below-same-length-6 t c = let c10 = c .before .before .before .before .before .before .before .before .before .before in let c26 = c10 .before .before .before .before .before .before .before .before .before .before .before .before .before .before .before .before in (c10 .normal-form2 .ensures .taken .thens) ∙ (c26 .normal-form .ensures .taken .thens)
+
+normal-below-same-length-7 : (t : ℕ) → normal-below-lts.Need-same-length-7 (normal-below-calls t) (normal-below-at t) normal-below.Post
+normal-below-same-length-7 t c = let c10 = c .before .before .before .before .before .before .before .before .before .before in let c26 = c10 .before .before .before .before .before .before .before .before .before .before .before .before .before .before .before .before in (c10 .normal-form2 .ensures .taken .elses) ∙ (c26 .normal-form .ensures .taken .elses)
+
+normal-below-same-length-8 : (t : ℕ) → normal-below-lts.Need-same-length-8 (normal-below-calls t) (normal-below-at t) normal-below.Post
+normal-below-same-length-8 t c = let c10 = c .before .before .before .before .before .before .before .before .before .before in let c26 = c10 .before .before .before .before .before .before .before .before .before .before .before .before .before .before .before .before in (c10 .normal-form2 .ensures .behind .same-length) ∙ (c26 .normal-form .ensures .behind .same-length)
+
+normal-below-returns-2 : (t : ℕ) → normal-below-lts.Need-returns-2 (normal-below-calls t) (normal-below-at t) normal-below.Post
+normal-below-returns-2 t c = let c10 = c .before .before .before .before .before .before .before .before .before .before in let c16 = c10 .before .before .before .before .before .before in let c26 = c16 .before .before .before .before .before .before .before .before .before .before in let c38 = c26 .before .before .before .before .before .before .before .before .before .before .before .before in else-full _ _ _ _ _ _ _ _ (c38 .pre .1) _ _ _ _ (kept-is (c16 .t .given .1) (c26 .normal-form .ensures)) (kept-is (c .enum-told2 .given .1) (c10 .normal-form2 .ensures))
+
+normal-below-make-requires : (t : ℕ) → normal-below-lts.Need-make-requires (normal-below-calls t) (normal-below-at t) normal-below.Post
+normal-below-make-requires t c κs = let c5 = c .before .before .before .before .before in let c15 = c5 .before .before .before .before .before .before .before .before .before .before in let c21 = c15 .before .before .before .before .before .before in let c31 = c21 .before .before .before .before .before .before .before .before .before .before in let c43 = c31 .before .before .before .before .before .before .before .before .before .before .before .before in make-asks _ _ _ _ _ _ _ _ (c43 .pre .1) _ _ _ _ (kept-is (c21 .t .given .1) (c31 .normal-form .ensures)) _ _ _ _ (kept-is (c5 .e .given .1) (c15 .normal-form2 .ensures))
+
+normal-below-same-length-9 : (t : ℕ) → normal-below-lts.Need-same-length-9 (normal-below-calls t) (normal-below-at t) normal-below.Post
+normal-below-same-length-9 t c = let c8 = c .before .before .before .before .before .before .before .before in let c24 = c8 .before .before .before .before .before .before .before .before .before .before .before .before .before .before .before .before in let c40 = c24 .before .before .before .before .before .before .before .before .before .before .before .before .before .before .before .before in (c8 .make .ensures .taken .vars) ∙ (c24 .normal-form2 .ensures .taken .vars) ∙ (c40 .normal-form .ensures .taken .vars)
+
+normal-below-same-length-10 : (t : ℕ) → normal-below-lts.Need-same-length-10 (normal-below-calls t) (normal-below-at t) normal-below.Post
+normal-below-same-length-10 t c = let c8 = c .before .before .before .before .before .before .before .before in let c24 = c8 .before .before .before .before .before .before .before .before .before .before .before .before .before .before .before .before in let c40 = c24 .before .before .before .before .before .before .before .before .before .before .before .before .before .before .before .before in (c8 .make .ensures .taken .thens) ∙ (c24 .normal-form2 .ensures .taken .thens) ∙ (c40 .normal-form .ensures .taken .thens)
+
+normal-below-same-length-11 : (t : ℕ) → normal-below-lts.Need-same-length-11 (normal-below-calls t) (normal-below-at t) normal-below.Post
+normal-below-same-length-11 t c = let c8 = c .before .before .before .before .before .before .before .before in let c24 = c8 .before .before .before .before .before .before .before .before .before .before .before .before .before .before .before .before in let c40 = c24 .before .before .before .before .before .before .before .before .before .before .before .before .before .before .before .before in (c8 .make .ensures .taken .elses) ∙ (c24 .normal-form2 .ensures .taken .elses) ∙ (c40 .normal-form .ensures .taken .elses)
+
+normal-below-same-length-12 : (t : ℕ) → normal-below-lts.Need-same-length-12 (normal-below-calls t) (normal-below-at t) normal-below.Post
+normal-below-same-length-12 t c = let c8 = c .before .before .before .before .before .before .before .before in let c24 = c8 .before .before .before .before .before .before .before .before .before .before .before .before .before .before .before .before in let c40 = c24 .before .before .before .before .before .before .before .before .before .before .before .before .before .before .before .before in (c8 .make .ensures .front .same-length) ∙ (c24 .normal-form2 .ensures .behind .same-length) ∙ (c40 .normal-form .ensures .behind .same-length)
+
+normal-below-returns-3 : (t : ℕ) → normal-below-lts.Need-returns-3 (normal-below-calls t) (normal-below-at t) normal-below.Post
+normal-below-returns-3 t c = let c8 = c .before .before .before .before .before .before .before .before in let c14 = c8 .before .before .before .before .before .before in let c24 = c14 .before .before .before .before .before .before .before .before .before .before in let c30 = c24 .before .before .before .before .before .before in let c40 = c30 .before .before .before .before .before .before .before .before .before .before in let c52 = c40 .before .before .before .before .before .before .before .before .before .before .before .before in below-made _ _ _ _ _ _ _ _ (c52 .pre .1) _ _ _ _ (kept-is (c30 .t .given .1) (c40 .normal-form .ensures)) _ _ _ _ (kept-is (c14 .e .given .1) (c24 .normal-form2 .ensures)) (c8 .make .ensures)
+
+normal-deep-row-of-requires : (t : ℕ) → normal-deep-lts.Need-row-of-requires (normal-deep-calls t) (normal-deep-at t) normal-deep.Post
+normal-deep-row-of-requires t c κs = let c7 = c .before .before .before .before .before .before .before in deep-asks _ _ _ _ _ _ (c7 .pre .1 .0) (c7 .pre .1 .1)
+
+normal-deep-row-of-requires-2 : (t : ℕ) → normal-deep-lts.Need-row-of-requires-2 (normal-deep-calls t) (normal-deep-at t) normal-deep.Post
+normal-deep-row-of-requires-2 t c κs = let c11 = c .before .before .before .before .before .before .before .before .before .before .before in deep-asks-2 _ _ _ _ _ _ (c11 .pre .1 .0) (c11 .pre .1 .1)
+
+normal-deep-normal-below-requires : (t : ℕ) → normal-deep-lts.Need-normal-below-requires (normal-deep-calls t) (normal-deep-at t) normal-deep.Post
+normal-deep-normal-below-requires t c κs = let c4 = c .before .before .before .before in let c7 = c4 .before .before .before in let c11 = c7 .before .before .before .before in let c19 = c11 .before .before .before .before .before .before .before .before in below-asks _ _ _ _ _ _ (c19 .pre .1 .0) (c19 .pre .1 .1) _ _ _ _ _ _ (c11 .row-of .ensures) (c7 .row-of2 .ensures) (c4 .if1 .taken) _ (c19 .pre .0)
+
+normal-deep-same-length : (t : ℕ) → normal-deep-lts.Need-same-length (normal-deep-calls t) (normal-deep-at t) normal-deep.Post
+normal-deep-same-length t c = let c8 = c .before .before .before .before .before .before .before .before in (c8 .normal-below .ensures .taken .vars)
+
+normal-deep-same-length-2 : (t : ℕ) → normal-deep-lts.Need-same-length-2 (normal-deep-calls t) (normal-deep-at t) normal-deep.Post
+normal-deep-same-length-2 t c = let c8 = c .before .before .before .before .before .before .before .before in (c8 .normal-below .ensures .taken .thens)
+
+normal-deep-same-length-3 : (t : ℕ) → normal-deep-lts.Need-same-length-3 (normal-deep-calls t) (normal-deep-at t) normal-deep.Post
+normal-deep-same-length-3 t c = let c8 = c .before .before .before .before .before .before .before .before in (c8 .normal-below .ensures .taken .elses)
+
+normal-deep-same-length-4 : (t : ℕ) → normal-deep-lts.Need-same-length-4 (normal-deep-calls t) (normal-deep-at t) normal-deep.Post
+normal-deep-same-length-4 t c = let c8 = c .before .before .before .before .before .before .before .before in (c8 .normal-below .ensures .behind .same-length)
+
+normal-deep-returns : (t : ℕ) → normal-deep-lts.Need-returns (normal-deep-calls t) (normal-deep-at t) normal-deep.Post
+normal-deep-returns t c = let c8 = c .before .before .before .before .before .before .before .before in let c13 = c8 .before .before .before .before .before in let c16 = c13 .before .before .before in let c20 = c16 .before .before .before .before in let c28 = c20 .before .before .before .before .before .before .before .before in below-done _ _ _ _ _ _ (c28 .pre .1 .0) (c28 .pre .1 .1) _ _ _ _ _ _ (c20 .row-of .ensures) (c16 .row-of2 .ensures) (c13 .if1 .taken) (c8 .normal-below .ensures)
+
+normal-deep-normal-meet-requires : (t : ℕ) → normal-deep-lts.Need-normal-meet-requires (normal-deep-calls t) (normal-deep-at t) normal-deep.Post
+normal-deep-normal-meet-requires t c κs = let c4 = c .before .before .before .before in let c7 = c4 .before .before .before in let c11 = c7 .before .before .before .before in let c19 = c11 .before .before .before .before .before .before .before .before in meet-asks _ _ _ _ _ _ (c19 .pre .1 .0) (c19 .pre .1 .1) _ _ _ _ _ _ (c11 .row-of .ensures) (c7 .row-of2 .ensures) (c4 .if1 .left) _ (c19 .pre .0)
+
+normal-deep-same-length-5 : (t : ℕ) → normal-deep-lts.Need-same-length-5 (normal-deep-calls t) (normal-deep-at t) normal-deep.Post
+normal-deep-same-length-5 t c = let c8 = c .before .before .before .before .before .before .before .before in (c8 .normal-meet .ensures .taken .vars)
+
+normal-deep-same-length-6 : (t : ℕ) → normal-deep-lts.Need-same-length-6 (normal-deep-calls t) (normal-deep-at t) normal-deep.Post
+normal-deep-same-length-6 t c = let c8 = c .before .before .before .before .before .before .before .before in (c8 .normal-meet .ensures .taken .thens)
+
+normal-deep-same-length-7 : (t : ℕ) → normal-deep-lts.Need-same-length-7 (normal-deep-calls t) (normal-deep-at t) normal-deep.Post
+normal-deep-same-length-7 t c = let c8 = c .before .before .before .before .before .before .before .before in (c8 .normal-meet .ensures .taken .elses)
+
+normal-deep-same-length-8 : (t : ℕ) → normal-deep-lts.Need-same-length-8 (normal-deep-calls t) (normal-deep-at t) normal-deep.Post
+normal-deep-same-length-8 t c = let c8 = c .before .before .before .before .before .before .before .before in (c8 .normal-meet .ensures .behind .same-length)
+
+normal-deep-returns-2 : (t : ℕ) → normal-deep-lts.Need-returns-2 (normal-deep-calls t) (normal-deep-at t) normal-deep.Post
+normal-deep-returns-2 t c = let c8 = c .before .before .before .before .before .before .before .before in let c13 = c8 .before .before .before .before .before in let c16 = c13 .before .before .before in let c20 = c16 .before .before .before .before in let c28 = c20 .before .before .before .before .before .before .before .before in meet-done _ _ _ _ _ _ (c28 .pre .1 .0) (c28 .pre .1 .1) _ _ _ _ _ _ (c20 .row-of .ensures) (c16 .row-of2 .ensures) (c13 .if1 .left) (c8 .normal-meet .ensures)
+
+normal-form-returns : (t : ℕ) → normal-form-lts.Need-returns (normal-form-calls t) (normal-form-at t) normal-form.Post
+normal-form-returns t c = let c6 = c .before .before .before .before .before .before in kept-nothing (c6 .pre .1 .by .live) (form-const _ _ _ _ _ _ (c6 .pre .1) (c .if1 .taken))
+
+normal-form-row-of-requires : (t : ℕ) → normal-form-lts.Need-row-of-requires (normal-form-calls t) (normal-form-at t) normal-form.Post
+normal-form-row-of-requires t c κs = let c9 = c .before .before .before .before .before .before .before .before .before in form-asks _ _ _ _ _ _ (c9 .pre .1)
+
+normal-form-lead-at-requires : (t : ℕ) → normal-form-lts.Need-lead-at-requires (normal-form-calls t) (normal-form-at t) normal-form.Post
+normal-form-lead-at-requires t c κs = let c5 = c .before .before .before .before .before in let c9 = c5 .before .before .before .before in let c15 = c9 .before .before .before .before .before .before in ((c15 .pre .1 .by), form-below _ _ _ _ _ _ (c15 .pre .1) (c9 .if1 .left) _ _ _ (c5 .row-of .ensures))
+
+normal-form-same-length : (t : ℕ) → normal-form-lts.Need-same-length (normal-form-calls t) (normal-form-at t) normal-form.Post
+normal-form-same-length t c = search needs
+
+normal-form-same-length-2 : (t : ℕ) → normal-form-lts.Need-same-length-2 (normal-form-calls t) (normal-form-at t) normal-form.Post
+normal-form-same-length-2 t c = search needs
+
+normal-form-same-length-3 : (t : ℕ) → normal-form-lts.Need-same-length-3 (normal-form-calls t) (normal-form-at t) normal-form.Post
+normal-form-same-length-3 t c = search needs
+
+normal-form-same-length-4 : (t : ℕ) → normal-form-lts.Need-same-length-4 (normal-form-calls t) (normal-form-at t) normal-form.Post
+normal-form-same-length-4 t c = search needs
+
+normal-form-returns-2 : (t : ℕ) → normal-form-lts.Need-returns-2 (normal-form-calls t) (normal-form-at t) normal-form.Post
+normal-form-returns-2 t c = let c8 = c .before .before .before .before .before .before .before .before in let c12 = c8 .before .before .before .before in let c18 = c12 .before .before .before .before .before .before in kept-nothing (c18 .pre .1 .by .live) (form-empty _ _ _ _ _ _ (c18 .pre .1) (c12 .if1 .left) _ _ _ (c8 .row-of .ensures) _ (c .before .before .lead-at .ensures) (c .if2 .taken))
+
+normal-form-key-requires : (t : ℕ) → normal-form-lts.Need-key-requires (normal-form-calls t) (normal-form-at t) normal-form.Post
+normal-form-key-requires t c κs = search needs
+
+normal-form-recall-requires : (t : ℕ) → normal-form-lts.Need-recall-requires (normal-form-calls t) (normal-form-at t) normal-form.Post
+normal-form-recall-requires t c κs = search needs
+
+normal-form-enum-known-k : (t : ℕ) → normal-form-lts.Need-enum-known-k (normal-form-calls t) (normal-form-at t) normal-form.Post
+normal-form-enum-known-k t c = search needs
+
+normal-form-same-length-5 : (t : ℕ) → normal-form-lts.Need-same-length-5 (normal-form-calls t) (normal-form-at t) normal-form.Post
+normal-form-same-length-5 t c = search needs
+
+normal-form-same-length-6 : (t : ℕ) → normal-form-lts.Need-same-length-6 (normal-form-calls t) (normal-form-at t) normal-form.Post
+normal-form-same-length-6 t c = search needs
+
+normal-form-same-length-7 : (t : ℕ) → normal-form-lts.Need-same-length-7 (normal-form-calls t) (normal-form-at t) normal-form.Post
+normal-form-same-length-7 t c = search needs
+
+normal-form-same-length-8 : (t : ℕ) → normal-form-lts.Need-same-length-8 (normal-form-calls t) (normal-form-at t) normal-form.Post
+normal-form-same-length-8 t c = search needs
+
+normal-form-returns-3 : (t : ℕ) → normal-form-lts.Need-returns-3 (normal-form-calls t) (normal-form-at t) normal-form.Post
+normal-form-returns-3 t c = let c3 = c .before .before .before in let c5 = c3 .before .before in let c8 = c5 .before .before .before in let c14 = c8 .before .before .before .before .before .before in let c18 = c14 .before .before .before .before in let c24 = c18 .before .before .before .before .before .before in kept-nothing (c24 .pre .1 .by .live) (form-recalled _ _ _ _ _ _ (c24 .pre .1) (c18 .if1 .left) _ _ _ (c14 .row-of .ensures) _ (c8 .lead-at .ensures) _ (c5 .key .ensures) (c .before .k .given .1) (c3 .recall .ensures))
+
+normal-form-enum-told : (t : ℕ) → normal-form-lts.Need-enum-told (normal-form-calls t) (normal-form-at t) normal-form.Post
+normal-form-enum-told t c = search needs
+
+normal-form-normal-deep-requires : (t : ℕ) → normal-form-lts.Need-normal-deep-requires (normal-form-calls t) (normal-form-at t) normal-form.Post
+normal-form-normal-deep-requires t c κs = let c9 = c .before .before .before .before .before .before .before .before .before in let c11 = c9 .before .before in let c17 = c11 .before .before .before .before .before .before in let c21 = c17 .before .before .before .before in let c27 = c21 .before .before .before .before .before .before in form-deep _ _ _ _ _ _ (c27 .pre .1) (c21 .if1 .left) _ _ _ (c17 .row-of .ensures) _ (c11 .lead-at .ensures) (c9 .if2 .left) _ (c27 .pre .0)
+
+normal-form-enum-known-k-2 : (t : ℕ) → normal-form-lts.Need-enum-known-k-2 (normal-form-calls t) (normal-form-at t) normal-form.Post
+normal-form-enum-known-k-2 t c = search needs
+
+normal-form-enum-told-2 : (t : ℕ) → normal-form-lts.Need-enum-told-2 (normal-form-calls t) (normal-form-at t) normal-form.Post
+normal-form-enum-told-2 t c = search needs
+
+normal-form-same-length-9 : (t : ℕ) → normal-form-lts.Need-same-length-9 (normal-form-calls t) (normal-form-at t) normal-form.Post
+normal-form-same-length-9 t c = let c10 = c .before .before .before .before .before .before .before .before .before .before in (c10 .normal-deep .ensures .taken .vars)
+
+normal-form-same-length-10 : (t : ℕ) → normal-form-lts.Need-same-length-10 (normal-form-calls t) (normal-form-at t) normal-form.Post
+normal-form-same-length-10 t c = let c10 = c .before .before .before .before .before .before .before .before .before .before in (c10 .normal-deep .ensures .taken .thens)
+
+normal-form-same-length-11 : (t : ℕ) → normal-form-lts.Need-same-length-11 (normal-form-calls t) (normal-form-at t) normal-form.Post
+normal-form-same-length-11 t c = let c10 = c .before .before .before .before .before .before .before .before .before .before in (c10 .normal-deep .ensures .taken .elses)
+
+normal-form-same-length-12 : (t : ℕ) → normal-form-lts.Need-same-length-12 (normal-form-calls t) (normal-form-at t) normal-form.Post
+normal-form-same-length-12 t c = let c10 = c .before .before .before .before .before .before .before .before .before .before in (c10 .normal-deep .ensures .behind .same-length)
+
+normal-form-returns-4 : (t : ℕ) → normal-form-lts.Need-returns-4 (normal-form-calls t) (normal-form-at t) normal-form.Post
+normal-form-returns-4 t c = let c10 = c .before .before .before .before .before .before .before .before .before .before in let c22 = c10 .before .before .before .before .before .before .before .before .before .before .before .before in let c28 = c22 .before .before .before .before .before .before in let c32 = c28 .before .before .before .before in let c38 = c32 .before .before .before .before .before .before in form-full _ _ _ _ _ _ (c38 .pre .1) (c32 .if1 .left) _ _ _ (c28 .row-of .ensures) _ (c22 .lead-at .ensures) (kept-is (c .enum-told2 .given .1) (c10 .normal-deep .ensures))
+
+normal-form-remember-requires : (t : ℕ) → normal-form-lts.Need-remember-requires (normal-form-calls t) (normal-form-at t) normal-form.Post
+normal-form-remember-requires t c κs = let c21 = c .before .before .before .before .before .before .before .before .before .before .before .before .before .before .before .before .before .before .before .before .before in let c24 = c21 .before .before .before in let c30 = c24 .before .before .before .before .before .before in let c34 = c30 .before .before .before .before in let c40 = c34 .before .before .before .before .before .before in form-key _ _ _ _ _ _ (c40 .pre .1) (c34 .if1 .left) _ _ _ (c30 .row-of .ensures) _ (c24 .lead-at .ensures) _ (c21 .key .ensures)
+
+normal-form-same-length-13 : (t : ℕ) → normal-form-lts.Need-same-length-13 (normal-form-calls t) (normal-form-at t) normal-form.Post
+normal-form-same-length-13 t c = let c15 = c .before .before .before .before .before .before .before .before .before .before .before .before .before .before .before in (c15 .normal-deep .ensures .taken .vars)
+
+normal-form-same-length-14 : (t : ℕ) → normal-form-lts.Need-same-length-14 (normal-form-calls t) (normal-form-at t) normal-form.Post
+normal-form-same-length-14 t c = let c15 = c .before .before .before .before .before .before .before .before .before .before .before .before .before .before .before in (c15 .normal-deep .ensures .taken .thens)
+
+normal-form-same-length-15 : (t : ℕ) → normal-form-lts.Need-same-length-15 (normal-form-calls t) (normal-form-at t) normal-form.Post
+normal-form-same-length-15 t c = let c15 = c .before .before .before .before .before .before .before .before .before .before .before .before .before .before .before in (c15 .normal-deep .ensures .taken .elses)
+
+normal-form-same-length-16 : (t : ℕ) → normal-form-lts.Need-same-length-16 (normal-form-calls t) (normal-form-at t) normal-form.Post
+normal-form-same-length-16 t c = search needs
+
+normal-form-returns-5 : (t : ℕ) → normal-form-lts.Need-returns-5 (normal-form-calls t) (normal-form-at t) normal-form.Post
+normal-form-returns-5 t c = let c5 = c .before .before .before .before .before in let c15 = c5 .before .before .before .before .before .before .before .before .before .before in let c24 = c15 .before .before .before .before .before .before .before .before .before in let c27 = c24 .before .before .before in let c33 = c27 .before .before .before .before .before .before in let c37 = c33 .before .before .before .before in let c43 = c37 .before .before .before .before .before .before in form-remembered _ _ _ _ _ _ (c43 .pre .1) (c37 .if1 .left) _ _ _ (c33 .row-of .ensures) _ (c27 .lead-at .ensures) _ (c24 .key .ensures) _ _ _ _ (kept-is (c5 .k2 .given .1) (c15 .normal-deep .ensures)) _ (c .before .before .remember .ensures)
+
+normal-meet-normal-form-requires : (t : ℕ) → normal-meet-lts.Need-normal-form-requires (normal-meet-calls t) (normal-meet-at t) normal-meet.Post
+normal-meet-normal-form-requires t c κs = let c11 = c .before .before .before .before .before .before .before .before .before .before .before in a-asks _ _ _ _ _ _ _ _ _ (c11 .pre .1) _ (c11 .pre .0)
+
+normal-meet-enum-known-a : (t : ℕ) → normal-meet-lts.Need-enum-known-a (normal-meet-calls t) (normal-meet-at t) normal-meet.Post
+normal-meet-enum-known-a t c = search needs
+
+normal-meet-enum-told : (t : ℕ) → normal-meet-lts.Need-enum-told (normal-meet-calls t) (normal-meet-at t) normal-meet.Post
+normal-meet-enum-told t c = search needs
+
+normal-meet-same-length : (t : ℕ) → normal-meet-lts.Need-same-length (normal-meet-calls t) (normal-meet-at t) normal-meet.Post
+normal-meet-same-length t c = let c10 = c .before .before .before .before .before .before .before .before .before .before in (c10 .normal-form .ensures .taken .vars)
+
+normal-meet-same-length-2 : (t : ℕ) → normal-meet-lts.Need-same-length-2 (normal-meet-calls t) (normal-meet-at t) normal-meet.Post
+normal-meet-same-length-2 t c = let c10 = c .before .before .before .before .before .before .before .before .before .before in (c10 .normal-form .ensures .taken .thens)
+
+normal-meet-same-length-3 : (t : ℕ) → normal-meet-lts.Need-same-length-3 (normal-meet-calls t) (normal-meet-at t) normal-meet.Post
+normal-meet-same-length-3 t c = let c10 = c .before .before .before .before .before .before .before .before .before .before in (c10 .normal-form .ensures .taken .elses)
+
+normal-meet-same-length-4 : (t : ℕ) → normal-meet-lts.Need-same-length-4 (normal-meet-calls t) (normal-meet-at t) normal-meet.Post
+normal-meet-same-length-4 t c = let c10 = c .before .before .before .before .before .before .before .before .before .before in (c10 .normal-form .ensures .behind .same-length)
+
+normal-meet-returns : (t : ℕ) → normal-meet-lts.Need-returns (normal-meet-calls t) (normal-meet-at t) normal-meet.Post
+normal-meet-returns t c = let c10 = c .before .before .before .before .before .before .before .before .before .before in let c22 = c10 .before .before .before .before .before .before .before .before .before .before .before .before in a-full _ _ _ _ _ _ _ _ _ (c22 .pre .1) (kept-is (c .enum-told .given .1) (c10 .normal-form .ensures))
+
+normal-meet-normal-form-requires-2 : (t : ℕ) → normal-meet-lts.Need-normal-form-requires-2 (normal-meet-calls t) (normal-meet-at t) normal-meet.Post
+normal-meet-normal-form-requires-2 t c κs = let c5 = c .before .before .before .before .before in let c15 = c5 .before .before .before .before .before .before .before .before .before .before in let c27 = c15 .before .before .before .before .before .before .before .before .before .before .before .before in b-asks _ _ _ _ _ _ _ _ _ (c27 .pre .1) _ _ _ _ (kept-is (c5 .a .given .1) (c15 .normal-form .ensures)) _ (c27 .pre .0)
+
+normal-meet-enum-known-b : (t : ℕ) → normal-meet-lts.Need-enum-known-b (normal-meet-calls t) (normal-meet-at t) normal-meet.Post
+normal-meet-enum-known-b t c = search needs
+
+normal-meet-enum-told-2 : (t : ℕ) → normal-meet-lts.Need-enum-told-2 (normal-meet-calls t) (normal-meet-at t) normal-meet.Post
+normal-meet-enum-told-2 t c = search needs
+
+normal-meet-same-length-5 : (t : ℕ) → normal-meet-lts.Need-same-length-5 (normal-meet-calls t) (normal-meet-at t) normal-meet.Post
+normal-meet-same-length-5 t c = let c10 = c .before .before .before .before .before .before .before .before .before .before in let c26 = c10 .before .before .before .before .before .before .before .before .before .before .before .before .before .before .before .before in (c10 .normal-form2 .ensures .taken .vars) ∙ (c26 .normal-form .ensures .taken .vars)
+
+normal-meet-same-length-6 : (t : ℕ) → normal-meet-lts.Need-same-length-6 (normal-meet-calls t) (normal-meet-at t) normal-meet.Post
+normal-meet-same-length-6 t c = let c10 = c .before .before .before .before .before .before .before .before .before .before in let c26 = c10 .before .before .before .before .before .before .before .before .before .before .before .before .before .before .before .before in (c10 .normal-form2 .ensures .taken .thens) ∙ (c26 .normal-form .ensures .taken .thens)
+
+normal-meet-same-length-7 : (t : ℕ) → normal-meet-lts.Need-same-length-7 (normal-meet-calls t) (normal-meet-at t) normal-meet.Post
+normal-meet-same-length-7 t c = let c10 = c .before .before .before .before .before .before .before .before .before .before in let c26 = c10 .before .before .before .before .before .before .before .before .before .before .before .before .before .before .before .before in (c10 .normal-form2 .ensures .taken .elses) ∙ (c26 .normal-form .ensures .taken .elses)
+
+normal-meet-same-length-8 : (t : ℕ) → normal-meet-lts.Need-same-length-8 (normal-meet-calls t) (normal-meet-at t) normal-meet.Post
+normal-meet-same-length-8 t c = let c10 = c .before .before .before .before .before .before .before .before .before .before in let c26 = c10 .before .before .before .before .before .before .before .before .before .before .before .before .before .before .before .before in (c10 .normal-form2 .ensures .behind .same-length) ∙ (c26 .normal-form .ensures .behind .same-length)
+
+normal-meet-returns-2 : (t : ℕ) → normal-meet-lts.Need-returns-2 (normal-meet-calls t) (normal-meet-at t) normal-meet.Post
+normal-meet-returns-2 t c = let c10 = c .before .before .before .before .before .before .before .before .before .before in let c16 = c10 .before .before .before .before .before .before in let c26 = c16 .before .before .before .before .before .before .before .before .before .before in let c38 = c26 .before .before .before .before .before .before .before .before .before .before .before .before in b-full _ _ _ _ _ _ _ _ _ (c38 .pre .1) _ _ _ _ (kept-is (c16 .a .given .1) (c26 .normal-form .ensures)) (kept-is (c .enum-told2 .given .1) (c10 .normal-form2 .ensures))
+
+normal-meet-meet-rest-requires : (t : ℕ) → normal-meet-lts.Need-meet-rest-requires (normal-meet-calls t) (normal-meet-at t) normal-meet.Post
+normal-meet-meet-rest-requires t c κs = let c5 = c .before .before .before .before .before in let c15 = c5 .before .before .before .before .before .before .before .before .before .before in let c21 = c15 .before .before .before .before .before .before in let c31 = c21 .before .before .before .before .before .before .before .before .before .before in let c43 = c31 .before .before .before .before .before .before .before .before .before .before .before .before in rest-follows _ _ _ _ _ _ _ _ _ (c43 .pre .1) _ _ _ _ (kept-is (c21 .a .given .1) (c31 .normal-form .ensures)) _ _ _ _ (kept-is (c5 .b .given .1) (c15 .normal-form2 .ensures)) _ (c43 .pre .0)
+
+normal-meet-same-length-9 : (t : ℕ) → normal-meet-lts.Need-same-length-9 (normal-meet-calls t) (normal-meet-at t) normal-meet.Post
+normal-meet-same-length-9 t c = let c8 = c .before .before .before .before .before .before .before .before in let c24 = c8 .before .before .before .before .before .before .before .before .before .before .before .before .before .before .before .before in let c40 = c24 .before .before .before .before .before .before .before .before .before .before .before .before .before .before .before .before in (c8 .meet-rest .ensures .taken .vars) ∙ (c24 .normal-form2 .ensures .taken .vars) ∙ (c40 .normal-form .ensures .taken .vars)
+
+normal-meet-same-length-10 : (t : ℕ) → normal-meet-lts.Need-same-length-10 (normal-meet-calls t) (normal-meet-at t) normal-meet.Post
+normal-meet-same-length-10 t c = let c8 = c .before .before .before .before .before .before .before .before in let c24 = c8 .before .before .before .before .before .before .before .before .before .before .before .before .before .before .before .before in let c40 = c24 .before .before .before .before .before .before .before .before .before .before .before .before .before .before .before .before in (c8 .meet-rest .ensures .taken .thens) ∙ (c24 .normal-form2 .ensures .taken .thens) ∙ (c40 .normal-form .ensures .taken .thens)
+
+normal-meet-same-length-11 : (t : ℕ) → normal-meet-lts.Need-same-length-11 (normal-meet-calls t) (normal-meet-at t) normal-meet.Post
+normal-meet-same-length-11 t c = let c8 = c .before .before .before .before .before .before .before .before in let c24 = c8 .before .before .before .before .before .before .before .before .before .before .before .before .before .before .before .before in let c40 = c24 .before .before .before .before .before .before .before .before .before .before .before .before .before .before .before .before in (c8 .meet-rest .ensures .taken .elses) ∙ (c24 .normal-form2 .ensures .taken .elses) ∙ (c40 .normal-form .ensures .taken .elses)
+
+normal-meet-same-length-12 : (t : ℕ) → normal-meet-lts.Need-same-length-12 (normal-meet-calls t) (normal-meet-at t) normal-meet.Post
+normal-meet-same-length-12 t c = let c8 = c .before .before .before .before .before .before .before .before in let c24 = c8 .before .before .before .before .before .before .before .before .before .before .before .before .before .before .before .before in let c40 = c24 .before .before .before .before .before .before .before .before .before .before .before .before .before .before .before .before in (c8 .meet-rest .ensures .behind .same-length) ∙ (c24 .normal-form2 .ensures .behind .same-length) ∙ (c40 .normal-form .ensures .behind .same-length)
+
+normal-meet-returns-3 : (t : ℕ) → normal-meet-lts.Need-returns-3 (normal-meet-calls t) (normal-meet-at t) normal-meet.Post
+normal-meet-returns-3 t c = let c8 = c .before .before .before .before .before .before .before .before in let c14 = c8 .before .before .before .before .before .before in let c24 = c14 .before .before .before .before .before .before .before .before .before .before in let c30 = c24 .before .before .before .before .before .before in let c40 = c30 .before .before .before .before .before .before .before .before .before .before in let c52 = c40 .before .before .before .before .before .before .before .before .before .before .before .before in meet-made _ _ _ _ _ _ _ _ _ (c52 .pre .1) _ _ _ _ (kept-is (c30 .a .given .1) (c40 .normal-form .ensures)) _ _ _ _ (kept-is (c14 .b .given .1) (c24 .normal-form2 .ensures)) (c8 .meet-rest .ensures)
 
 pub +meet-rest+normal-below+normal-deep+normal-form+normal-meet-spec : {M : Type 1} → statement M
 +meet-rest+normal-below+normal-deep+normal-form+normal-meet-spec =
@@ -1298,12 +426,7 @@ pub +meet-rest+normal-below+normal-deep+normal-form+normal-meet-spec : {M : Type
     μ-normal-deep
     μ-normal-form
     μ-normal-meet
-    (λ t. meet-rest-lts.spec (
-      normal-form-below t,
-      normal-form.Post,
-      join-reads.Asked,
-      join-reads.Learnt,
-    )
+    (λ t. meet-rest-lts.spec (meet-rest-calls t)
     (meet-rest-at t)
     meet-rest.Post
     (meet-rest-normal-form-requires t)
@@ -1320,12 +443,7 @@ pub +meet-rest+normal-below+normal-deep+normal-form+normal-meet-spec : {M : Type
     (meet-rest-same-length-7 t)
     (meet-rest-same-length-8 t)
     (meet-rest-returns-2 t))
-    (λ t. normal-below-lts.spec (
-      normal-form-below t,
-      normal-form.Post,
-      make-reads.Asked,
-      make-reads.Learnt,
-    )
+    (λ t. normal-below-lts.spec (normal-below-calls t)
     (normal-below-at t)
     normal-below.Post
     (normal-below-normal-form-requires t)
@@ -1350,14 +468,7 @@ pub +meet-rest+normal-below+normal-deep+normal-form+normal-meet-spec : {M : Type
     (normal-below-same-length-11 t)
     (normal-below-same-length-12 t)
     (normal-below-returns-3 t))
-    (λ t. normal-deep-lts.spec (
-      row-of-reads.Asked,
-      row-of-reads.Learnt,
-      normal-below-below t,
-      normal-below.Post,
-      normal-meet-below t,
-      normal-meet.Post,
-    )
+    (λ t. normal-deep-lts.spec (normal-deep-calls t)
     (normal-deep-at t)
     normal-deep.Post
     (normal-deep-row-of-requires t)
@@ -1374,20 +485,7 @@ pub +meet-rest+normal-below+normal-deep+normal-form+normal-meet-spec : {M : Type
     (normal-deep-same-length-7 t)
     (normal-deep-same-length-8 t)
     (normal-deep-returns-2 t))
-    (λ t. normal-form-lts.spec (
-      row-of-reads.Asked,
-      row-of-reads.Learnt,
-      lead-at-reads.Asked,
-      lead-at-reads.Learnt,
-      key-reads.Asked,
-      key-reads.Learnt,
-      recall-reads.Asked,
-      recall-reads.Learnt,
-      normal-deep-below t,
-      normal-deep.Post,
-      remember-reads.Asked,
-      remember-reads.Learnt,
-    )
+    (λ t. normal-form-lts.spec (normal-form-calls t)
     (normal-form-at t)
     normal-form.Post
     (normal-form-returns t)
@@ -1421,8 +519,7 @@ pub +meet-rest+normal-below+normal-deep+normal-form+normal-meet-spec : {M : Type
     (normal-form-same-length-15 t)
     (normal-form-same-length-16 t)
     (normal-form-returns-5 t))
-    λ t. normal-meet-lts.spec
-    (normal-form-below t, normal-form.Post, meet-rest-below t, meet-rest.Post)
+    λ t. normal-meet-lts.spec (normal-meet-calls t)
     (normal-meet-at t)
     normal-meet.Post
     (normal-meet-normal-form-requires t)
@@ -1447,3 +544,4 @@ pub +meet-rest+normal-below+normal-deep+normal-form+normal-meet-spec : {M : Type
     (normal-meet-same-length-11 t)
     (normal-meet-same-length-12 t)
     (normal-meet-returns-3 t)
+

@@ -1,0 +1,47 @@
+use borrow.Author.Needs.{needs}
+use Rattle.normal.proofs.normal_form.Statement.{statement}
+use Rattle.normal.proofs.normal_form.Tie as tie
+use Rattle.normal.proofs.normal_form.Reads as reads
+use Rattle.normal.proofs.normal_form.Lts as lts
+use Rattle.normal.proofs.normal_checked.Reads as normal-checked-reads
+use Rattle.table.proofs.clear.zero_work.Reads as zero-work-reads
+
+-- src/lib.rt:170:9
+normal-checked-requires : tie.Need-normal-checked-requires
+normal-checked-requires c κs = search needs
+
+-- src/lib.rt:171:5
+zero-work-requires : tie.Need-zero-work-requires
+zero-work-requires c κs = search needs
+
+-- src/lib.rt:157:1
+same-length : tie.Need-same-length
+same-length c = search needs
+
+-- src/lib.rt:157:1
+same-length-2 : tie.Need-same-length-2
+same-length-2 c = search needs
+
+-- src/lib.rt:157:1
+same-length-3 : tie.Need-same-length-3
+same-length-3 c = search needs
+
+-- src/lib.rt:157:1
+same-length-4 : tie.Need-same-length-4
+same-length-4 c = search needs
+
+-- src/lib.rt:157:1
+returns : tie.Need-returns
+returns c = ?
+
+pub normal-form-spec : {M : Type 1} → statement M
+normal-form-spec =
+    tie.close
+    (tie.spec
+    normal-checked-requires
+    zero-work-requires
+    same-length
+    same-length-2
+    same-length-3
+    same-length-4
+    returns)
