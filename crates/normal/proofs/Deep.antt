@@ -151,15 +151,18 @@ module _ (N c : ℕ) (s : Slices) (work : List ℕ) (p f : ℕ) (d : Reduces N c
     depth-is m z = let v-is : root N (rows-of s c) p ≡ v = ap (λ (r : Triple). r .var) q in omega (arith, min-eq-left (a .reached))
 
     pub below-asks : v < u → (m : ℕ) → 4 * depth N (rows-of s c) p f + 2 ≡ m → (4 * (N - v) + 1 < m) × Below N c s work v t e f
-    below-asks b m z = (depth-is m z, record {
-      by = d .by;
-      var-below = rw q at (deep-node .var-below);
-      then-used = back t (rw q at (deep-node .cut .then-used));
-      else-used = back e (rw q at (deep-node .cut .else-used));
-      then-above = rw q at (deep-node .cut .then-above);
-      else-above = rw q at (deep-node .cut .else-above);
-      system-above = rw (root, q′) b;
-    })
+    below-asks b m z = (
+      depth-is m z,
+      record {
+        by = d .by;
+        var-below = rw q at (deep-node .var-below);
+        then-used = back t (rw q at (deep-node .cut .then-used));
+        else-used = back e (rw q at (deep-node .cut .else-used));
+        then-above = rw q at (deep-node .cut .then-above);
+        else-above = rw q at (deep-node .cut .else-above);
+        system-above = rw (root, q′) b;
+      },
+    )
 
     pub below-done : v < u → {r : Made} {s′ : Slices} {work′ : List ℕ} → Kept N (below-steps N v t e f) r c s s′ work work′ → Kept N (normal N p f) r c s s′ work work′
     below-done b k =
@@ -169,19 +172,22 @@ module _ (N c : ℕ) (s : Slices) (work : List ℕ) (p f : ℕ) (d : Reduces N c
     equal b = let z : v ≤ u = rw (root, q, q′) at (a .reached) in omega arith
 
     pub meet-asks : u ≤ v → (m : ℕ) → 4 * depth N (rows-of s c) p f + 2 ≡ m → (4 * (N - v) + 1 < m) × Meet N c s work v t e h l
-    meet-asks b m z = (depth-is m z, record {
-      parts = record {
-        by = rw q′ at (others-reduce N c s work f (d .by) (lead-node .var-below));
-        var-below = rw q at (deep-node .var-below);
-        then-used = back t (rw q at (deep-node .cut .then-used));
-        else-used = back e (rw q at (deep-node .cut .else-used));
-        then-above = rw q at (deep-node .cut .then-above);
-        else-above = rw q at (deep-node .cut .else-above);
-        system-above = rw (equal b) (rw q′ at (lead-node .cut .then-above));
-      };
-      tail-used = back l (rw q′ at (lead-node .cut .else-used));
-      tail-above = rw (equal b) (rw q′ at (lead-node .cut .else-above));
-    })
+    meet-asks b m z = (
+      depth-is m z,
+      record {
+        parts = record {
+          by = rw q′ at (others-reduce N c s work f (d .by) (lead-node .var-below));
+          var-below = rw q at (deep-node .var-below);
+          then-used = back t (rw q at (deep-node .cut .then-used));
+          else-used = back e (rw q at (deep-node .cut .else-used));
+          then-above = rw q at (deep-node .cut .then-above);
+          else-above = rw q at (deep-node .cut .else-above);
+          system-above = rw (equal b) (rw q′ at (lead-node .cut .then-above));
+        };
+        tail-used = back l (rw q′ at (lead-node .cut .else-used));
+        tail-above = rw (equal b) (rw q′ at (lead-node .cut .else-above));
+      },
+    )
 
     pub meet-done : u ≤ v → {r : Made} {s′ : Slices} {work′ : List ℕ} → Kept N (meet-steps N t e h l) r c s s′ work work′ → Kept N (normal N p f) r c s s′ work work′
     meet-done b k =
@@ -316,15 +322,18 @@ module _ (N c : ℕ) (s : Slices) (work : List ℕ) (v t e f u : ℕ) (d : Meet 
       same-root k h = b-done .same-root k (a-done .still k h) ∙ a-done .same-root k h
 
       pub rest-follows : (m : ℕ) → 4 * (N - v) + 1 ≡ m → (4 * (N - v) < m) × Rest N n₂ s₂ work₂ (x .0) (y .0) v e f
-      rest-follows m z = (omega arith, record {
-        by = still-by N n s₁ work₁ t f by-a (a-done .still t (d .parts .then-used)) y n₂ s₂ work₂ l;
-        var-below = d .parts .var-below;
-        a-used = b-done .still (x .0) (a-done .used);
-        b-used = b-done .used;
-        else-used = still e (d .parts .else-used);
-        else-above = rw (same-root e (d .parts .else-used)) (d .parts .else-above);
-        system-above = rw (same-root f (d .parts .by .system .used)) (d .parts .system-above);
-      })
+      rest-follows m z = (
+        omega arith,
+        record {
+          by = still-by N n s₁ work₁ t f by-a (a-done .still t (d .parts .then-used)) y n₂ s₂ work₂ l;
+          var-below = d .parts .var-below;
+          a-used = b-done .still (x .0) (a-done .used);
+          b-used = b-done .used;
+          else-used = still e (d .parts .else-used);
+          else-above = rw (same-root e (d .parts .else-used)) (d .parts .else-above);
+          system-above = rw (same-root f (d .parts .by .system .used)) (d .parts .system-above);
+        },
+      )
 
       pub meet-made : {r : Made} {s₃ : Slices} {work₃ : List ℕ} → Kept N (rest-steps N (x .0) (y .0) e f) r n₂ s₂ s₃ work₂ work₃ → Kept N (meet-steps N t e f u) r c s s₃ work work₃
       meet-made m = kept-then (λ a. normal N t f >>= λ b. rest-steps N a b e f) keeps-b k (kept-then (λ b. rest-steps N (x .0) b e f) (λ b. keeps-rest N (x .0) b e f) l m)

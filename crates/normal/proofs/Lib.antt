@@ -3,3 +3,4 @@ pub mod Walking
 pub mod Filling
 pub mod Tabling
 pub mod Deep
+pub mod CallLaws

@@ -9,9 +9,7 @@ use Rattle.steps.specs.Sound.{sound}
 use Rattle.steps.specs.Steps.{normal}
 use Rattle.steps.specs.System.{equation, holds, leads, occurs}
 use Rattle.steps.specs.Table.{Slices, rows-of}
-use Rattle.table.specs.declared.Answer.{Answer}
-use Rattle.table.specs.declared.Answer.the-variants.{Made, Refused}
-use Rattle.table.specs.Calls.{unless_then_else_, checked, in-range, in-use, Left, left, refuse, take-steps}
+use Rattle.table.specs.Calls.{unless_then_else_, checked, in-range, in-use, Left, refuse, take-steps}
 
 -- "3: a number isn't 0, 1 or a row in use"; "4: system number is 0"; then what the call does
 abbrev pub system-checked : ℕ → Slices → ℕ → ℕ → Left → Left
@@ -28,13 +26,8 @@ unfoldable pub equation-call : ℕ → ℕ → Slices → ℕ → ℕ → ℕ �
 equation-call N c s i F t = checked (in-range N c s) (sound N (rows-of s c)) (λ why. refuse why s) (equation-checked N c s i F t)
 
 -- "Row (i, F, t) is the system F with the equation x_i + t = 0 added."
-abbrev pub Adds : Answer → ℕ → Slices → Slices → ℕ → ℕ → ℕ → Type 0
-Adds (Made k n) c s s′ i F t = (a : Assignment) → holds a (rows-of s′ n) (k .0) ≡ Bool·beq (a i) (value a (rows-of s c) t) && holds a (rows-of s c) F
-Adds (Refused why) c s s′ i F t = Unit {0}
-
-pub record Added (call : Left) (r : Answer) (c : ℕ) (s s′ : Slices) (i F t : ℕ) : Type 0 where
-  pub is : call ≡ left r s′
-  pub means : Adds r c s s′ i F t
+abbrev pub Adds : ℕ → Slices → ℕ → ℕ → ℕ → ℕ → ℕ → Slices → Type 0
+Adds c s i F t k n s′ = (a : Assignment) → holds a (rows-of s′ n) k ≡ Bool·beq (a i) (value a (rows-of s c) t) && holds a (rows-of s c) F
 
 abbrev pub normal-checked : ℕ → ℕ → Slices → ℕ → ℕ → Left
 normal-checked N c s p F = system-checked c s p F (take-steps (normal N p F) c s)
@@ -43,14 +36,6 @@ unfoldable pub normal-call : ℕ → ℕ → Slices → ℕ → ℕ → Left
 normal-call N c s p F = checked (in-range N c s) (sound N (rows-of s c)) (λ why. refuse why s) (normal-checked N c s p F)
 
 -- "a normal form holds no lead variable and agrees with its input wherever the system holds"
-pub record Reduced (c n : ℕ) (s s′ : Slices) (p F k : ℕ) : Type 0 where
+pub record Reduced (c : ℕ) (s : Slices) (p F k n : ℕ) (s′ : Slices) : Type 0 where
   pub agrees : (a : Assignment) → holds a (rows-of s c) F ≡ true → value a (rows-of s′ n) k ≡ value a (rows-of s c) p
   pub no-lead : (v : ℕ) → leads v (rows-of s c) F ≡ true → occurs v (rows-of s′ n) k ≡ false
-
-abbrev pub Reduces-to : Answer → ℕ → Slices → Slices → ℕ → ℕ → Type 0
-Reduces-to (Made k n) c s s′ p F = Reduced c n s s′ p F (k .0)
-Reduces-to (Refused why) c s s′ p F = Unit {0}
-
-pub record Formed (call : Left) (r : Answer) (c : ℕ) (s s′ : Slices) (p F : ℕ) : Type 0 where
-  pub is : call ≡ left r s′
-  pub means : Reduces-to r c s s′ p F

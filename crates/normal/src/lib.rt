@@ -17,7 +17,8 @@ ghost use Prim.Native.Nat.{_≤_};
 ghost use lib.ListN.{length, replicate};
 ghost use Rattle.steps.specs.Table.{slices};
 ghost use Rattle.table.specs.Memory.{Live};
-ghost use Rattle.normal.specs.Calls.{equation-checked, equation-call, Added, normal-checked, normal-call, Formed};
+ghost use Rattle.sums.specs.Calls.{Does};
+ghost use Rattle.normal.specs.Calls.{equation-checked, equation-call, Adds, normal-checked, normal-call, Reduced};
 
 fn equation_ready(
     n: usize,
@@ -31,7 +32,7 @@ fn equation_ready(
     tail: Row,
 ) -> Answer
     requires { ⌜ (Live n count (slices (now vs) (now ts) (now es)) (now work)) × (n ≤ 1024) ⌝ }
-    ensures { λ r. ⌜ Added (equation-checked n count (slices (now (vs .entry)) (now (ts .entry)) (now (es .entry))) (lead .0) (system .0) (tail .0)) r count (slices (now (vs .entry)) (now (ts .entry)) (now (es .entry))) (slices (now (vs .exit)) (now (ts .exit)) (now (es .exit))) (lead .0) (system .0) (tail .0) ⌝ }
+    ensures { λ r. ⌜ Does (Adds count (slices (now (vs .entry)) (now (ts .entry)) (now (es .entry))) (lead .0) (system .0) (tail .0)) (equation-checked n count (slices (now (vs .entry)) (now (ts .entry)) (now (es .entry))) (lead .0) (system .0) (tail .0)) r (slices (now (vs .exit)) (now (ts .exit)) (now (es .exit))) ⌝ }
 {
     if count + 2 <= tail.0 as usize {
         return Answer::Refused(3);
@@ -77,7 +78,7 @@ fn equation_checked(
     system: Row,
     tail: Row,
 ) -> Answer
-    ensures { λ r. ⌜ Added (equation-call n count (slices (now (vs .entry)) (now (ts .entry)) (now (es .entry))) (lead .0) (system .0) (tail .0)) r count (slices (now (vs .entry)) (now (ts .entry)) (now (es .entry))) (slices (now (vs .exit)) (now (ts .exit)) (now (es .exit))) (lead .0) (system .0) (tail .0) ⌝ }
+    ensures { λ r. ⌜ Does (Adds count (slices (now (vs .entry)) (now (ts .entry)) (now (es .entry))) (lead .0) (system .0) (tail .0)) (equation-call n count (slices (now (vs .entry)) (now (ts .entry)) (now (es .entry))) (lead .0) (system .0) (tail .0)) r (slices (now (vs .exit)) (now (ts .exit)) (now (es .exit))) ⌝ }
 {
     let table = check(n, vs, ts, es, count, work);
     match table {
@@ -99,7 +100,7 @@ pub fn equation(
     system: Row,
     tail: Row,
 ) -> Answer
-    ensures { λ r. ⌜ Added (equation-call n count (slices (now (vs .entry)) (now (ts .entry)) (now (es .entry))) (lead .0) (system .0) (tail .0)) r count (slices (now (vs .entry)) (now (ts .entry)) (now (es .entry))) (slices (now (vs .exit)) (now (ts .exit)) (now (es .exit))) (lead .0) (system .0) (tail .0) ⌝ }
+    ensures { λ r. ⌜ Does (Adds count (slices (now (vs .entry)) (now (ts .entry)) (now (es .entry))) (lead .0) (system .0) (tail .0)) (equation-call n count (slices (now (vs .entry)) (now (ts .entry)) (now (es .entry))) (lead .0) (system .0) (tail .0)) r (slices (now (vs .exit)) (now (ts .exit)) (now (es .exit))) ⌝ }
     ensures { λ _. ⌜ now (work .exit) ≡ replicate (length (now (work .entry))) 0 ⌝ }
 {
     let r = equation_checked(n, vs, ts, es, count, work, lead, system, tail);
@@ -118,7 +119,7 @@ fn normal_ready(
     system: Row,
 ) -> Answer
     requires { ⌜ (Live n count (slices (now vs) (now ts) (now es)) (now work)) × (n ≤ 1024) ⌝ }
-    ensures { λ r. ⌜ Formed (normal-checked n count (slices (now (vs .entry)) (now (ts .entry)) (now (es .entry))) (p .0) (system .0)) r count (slices (now (vs .entry)) (now (ts .entry)) (now (es .entry))) (slices (now (vs .exit)) (now (ts .exit)) (now (es .exit))) (p .0) (system .0) ⌝ }
+    ensures { λ r. ⌜ Does (Reduced count (slices (now (vs .entry)) (now (ts .entry)) (now (es .entry))) (p .0) (system .0)) (normal-checked n count (slices (now (vs .entry)) (now (ts .entry)) (now (es .entry))) (p .0) (system .0)) r (slices (now (vs .exit)) (now (ts .exit)) (now (es .exit))) ⌝ }
 {
     if count + 2 <= p.0 as usize {
         return Answer::Refused(3);
@@ -143,7 +144,7 @@ fn normal_checked(
     p: Row,
     system: Row,
 ) -> Answer
-    ensures { λ r. ⌜ Formed (normal-call n count (slices (now (vs .entry)) (now (ts .entry)) (now (es .entry))) (p .0) (system .0)) r count (slices (now (vs .entry)) (now (ts .entry)) (now (es .entry))) (slices (now (vs .exit)) (now (ts .exit)) (now (es .exit))) (p .0) (system .0) ⌝ }
+    ensures { λ r. ⌜ Does (Reduced count (slices (now (vs .entry)) (now (ts .entry)) (now (es .entry))) (p .0) (system .0)) (normal-call n count (slices (now (vs .entry)) (now (ts .entry)) (now (es .entry))) (p .0) (system .0)) r (slices (now (vs .exit)) (now (ts .exit)) (now (es .exit))) ⌝ }
 {
     let table = check(n, vs, ts, es, count, work);
     match table {
@@ -164,7 +165,7 @@ pub fn normal_form(
     p: Row,
     system: Row,
 ) -> Answer
-    ensures { λ r. ⌜ Formed (normal-call n count (slices (now (vs .entry)) (now (ts .entry)) (now (es .entry))) (p .0) (system .0)) r count (slices (now (vs .entry)) (now (ts .entry)) (now (es .entry))) (slices (now (vs .exit)) (now (ts .exit)) (now (es .exit))) (p .0) (system .0) ⌝ }
+    ensures { λ r. ⌜ Does (Reduced count (slices (now (vs .entry)) (now (ts .entry)) (now (es .entry))) (p .0) (system .0)) (normal-call n count (slices (now (vs .entry)) (now (ts .entry)) (now (es .entry))) (p .0) (system .0)) r (slices (now (vs .exit)) (now (ts .exit)) (now (es .exit))) ⌝ }
     ensures { λ _. ⌜ now (work .exit) ≡ replicate (length (now (work .entry))) 0 ⌝ }
 {
     let r = normal_checked(n, vs, ts, es, count, work, p, system);

@@ -3,4 +3,5 @@ pub mod Splits
 pub mod Recalling
 pub mod Remembering
 pub mod Deep
+pub mod CallEnds
 pub mod PairCalls

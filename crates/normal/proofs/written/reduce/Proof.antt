@@ -1,3 +1,6 @@
+use mathlib.Core.Path.{_∙_}
+use borrow.Author.Needs.{needs}
+use Rattle.normal.proofs.CallLaws.{reduce-asks, reduce-done}
 use borrow.Author.Needs.{needs}
 use Rattle.normal.proofs.written.reduce.Statement.{statement}
 use Rattle.normal.proofs.written.reduce.Tie as tie
@@ -6,33 +9,26 @@ use Rattle.normal.proofs.written.reduce.Lts as lts
 use Rattle.normal.proofs.leads.fill.Reads as fill-reads
 use Rattle.normal.proofs.written.normal_form.Reads as normal-form-reads
 
--- src/written.rt:189:5
 fill-requires : tie.Need-fill-requires
-fill-requires c κs = search needs
+fill-requires c κs = let c8 = c .before .before .before .before .before .before .before .before in ((c8 .pre .live), (c8 .pre .system))
 
--- src/written.rt:190:5
 normal-form-requires : tie.Need-normal-form-requires
-normal-form-requires c κs = search needs
+normal-form-requires c κs = let c6 = c .before .before .before .before .before .before in let c15 = c6 .before .before .before .before .before .before .before .before .before in reduce-asks _ _ _ _ _ _ (c15 .pre) _ (c6 .fill .ensures)
 
--- src/written.rt:176:1
 same-length : tie.Need-same-length
 same-length c = search needs
 
--- src/written.rt:176:1
 same-length-2 : tie.Need-same-length-2
 same-length-2 c = search needs
 
--- src/written.rt:176:1
 same-length-3 : tie.Need-same-length-3
 same-length-3 c = search needs
 
--- src/written.rt:176:1
 same-length-4 : tie.Need-same-length-4
-same-length-4 c = search needs
+same-length-4 c = let c8 = c .before .before .before .before .before .before .before .before in let c15 = c8 .before .before .before .before .before .before .before in (c8 .normal-form .ensures .behind .same-length) ∙ (c15 .fill .ensures .same-length)
 
--- src/written.rt:176:1
 returns : tie.Need-returns
-returns c = ?
+returns c = let c8 = c .before .before .before .before .before .before .before .before in let c15 = c8 .before .before .before .before .before .before .before in let c24 = c15 .before .before .before .before .before .before .before .before .before in reduce-done _ _ _ _ _ _ (c24 .pre) _ (c15 .fill .ensures) (c8 .normal-form .ensures)
 
 pub reduce-spec : {M : Type 1} → statement M
 reduce-spec =
