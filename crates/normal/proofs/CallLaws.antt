@@ -22,22 +22,12 @@ use Rattle.table.specs.declared.make.Made.{Made}
 use Rattle.table.specs.declared.check.Table.{Table}
 use Rattle.table.specs.declared.check.Table.the-variants.{Fine, OutOfRange, Unsound}
 use Rattle.table.specs.Lent.{Lent, Numbered}
-use Rattle.table.specs.Memory.{Live}
-use Rattle.table.specs.Inner.{Taken, Kept}
+use Rattle.table.specs.Inner.{Taken}
 use Rattle.table.specs.Checks.{Checked}
 use Rattle.table.specs.Calls.{unless_then_else_, in-range, Left, left, refuse, take-steps, checked, finished}
 use Rattle.sums.specs.Calls.{Does}
 use Rattle.sums.proofs.CallEnds.{does-made, does-range, does-unsound, does-fine, does-unique}
-use Rattle.normal.specs.Inner.{System, Asked, Filled, Reduces, Took}
 use Rattle.normal.specs.Calls.{system-checked, in-order, equation-checked, equation-call, Adds, normal-checked, normal-call, Reduced}
-
--- the whole normal form: the table of the system, then the steps
-module _ (N c : ℕ) (s : Slices) (work : List ℕ) (p f : ℕ) (d : Asked N c s work p f) (work′ : List ℕ) (e : Filled N c s work work′ f) where
-  pub reduce-asks : Reduces N c s work′ p f
-  reduce-asks = record { by = record { live = e .live; system = d .system; table = e .table }; used = d .used }
-
-  pub reduce-done : {r : Made} {s′ : Slices} {work″ : List ℕ} → Kept N (normal N p f) r c s s′ work′ work″ → Took N (normal N p f) r c s s′ work work″
-  reduce-done k = record { taken = k .taken; live = k .live; same-length = k .behind .same-length ∙ e .same-length }
 
 -- 3 and 4
 system-fine : (c : ℕ) (s : Slices) (k F : ℕ) (done : Left) → k < c + 2 → F < c + 2 → (F ≡ 0 → ⊥) → system-checked c s k F done ≡ done

@@ -1,7 +1,6 @@
-// The calls equation and normal form, and the written steps of the normal form for the crates above.
-pub mod leads;
-pub mod written;
+// The calls equation and normal form.
 
+use reduction::reduce;
 use table::Answer;
 use table::Row;
 use table::Var;
@@ -130,7 +129,7 @@ fn normal_ready(
     if system.0 == 0 {
         return Answer::Refused(4);
     }
-    let made = written::reduce(vs, ts, es, work, n as u16, count, p, system);
+    let made = reduce(vs, ts, es, work, n as u16, count, p, system);
     finish(vs, ts, es, count, made)
 }
 

@@ -8,7 +8,7 @@ use Rattle.normal.proofs.normal_ready.Statement.{statement}
 use Rattle.normal.proofs.normal_ready.Tie as tie
 use Rattle.normal.proofs.normal_ready.Reads as reads
 use Rattle.normal.proofs.normal_ready.Lts as lts
-use Rattle.normal.proofs.written.reduce.Reads as reduce-reads
+use Rattle.reduction.proofs.reduce.Reads as reduce-reads
 use Rattle.table.proofs.finish.finish.Reads as finish-reads
 
 add-if1 : tie.Need-add-if1

@@ -9,7 +9,7 @@ use Rattle.steps.proofs.Laws.{normal-above}
 use Rattle.steps.proofs.Normal.{normals-1}
 use Rattle.steps.proofs.Roots.{root-le, node-below}
 use Rattle.steps.proofs.Rows.{_≼_, Node, row-keeps, row-const}
-use Rattle.normal.specs.Inner.{Skips, stays, skips}
+use Rattle.leads.specs.Inner.{Skips, stays, skips}
 
 module _ (N : ℕ) (R : Rows) (w : Sound N R) (v : ℕ) (b : v ≤ N) where
   -- a system whose lead is before v has an equation

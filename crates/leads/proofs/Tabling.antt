@@ -12,8 +12,8 @@ use Rattle.steps.proofs.Table.{rows-of-next}
 use Rattle.table.specs.Lent.{room, Numbered}
 use Rattle.table.specs.Memory.{reach, Live, Behind}
 use Rattle.table.proofs.Links.{behind-word}
-use Rattle.normal.specs.Inner.{Skips, stays, Walking, Reducing}
-use Rattle.normal.proofs.Skipping.{skips-left, skips-keeps, skips-inside, skips-through}
+use Rattle.leads.specs.Inner.{Skips, stays, Walking, Reducing}
+use Rattle.leads.proofs.Skipping.{skips-left, skips-keeps, skips-inside, skips-through}
 
 -- the table as it is read, and kept
 module _ (N c : ℕ) (s : Slices) (work : List ℕ) (f : ℕ) (d : Reducing N c s work f) where

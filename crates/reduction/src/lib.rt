@@ -1,6 +1,6 @@
 // For the crates above: the written steps of the normal form, with its results remembered.
-use crate::leads::fill;
-use crate::leads::lead_at;
+use leads::fill;
+use leads::lead_at;
 use products::written::product;
 use sums::written::sum;
 use table::Row;
@@ -18,7 +18,7 @@ ghost use Rattle.steps.specs.Steps.{normal};
 ghost use Rattle.steps.specs.Table.{slices, rows-of};
 ghost use Rattle.table.specs.Inner.{Kept};
 ghost use Rattle.products.specs.Inner.{Three};
-ghost use Rattle.normal.specs.Inner.{Asked, Reduces, Proper, Below, Meet, Rest, Took, below-steps, join-steps, rest-steps, meet-steps};
+ghost use Rattle.reduction.specs.Inner.{Asked, Reduces, Proper, Below, Meet, Rest, Took, below-steps, join-steps, rest-steps, meet-steps};
 
 // The product of the first two, and that plus the third.
 fn join(

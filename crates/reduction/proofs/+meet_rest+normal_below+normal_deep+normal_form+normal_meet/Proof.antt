@@ -3,36 +3,36 @@ use mathlib.Core.Path.{_∙_}
 use Rattle.steps.specs.Table.{slices, rows-of}
 use Rattle.sums.specs.Inner.{depth}
 use Rattle.sums.proofs.Keeping.{kept-is, kept-nothing}
-use Rattle.normal.proofs.Deep.{form-const, form-asks, form-below, form-empty, form-deep, form-full, form-key, form-recalled, form-remembered, deep-asks, deep-asks-2, below-asks, below-done, meet-asks, meet-done, then-asks, then-full, else-asks, else-full, make-asks, below-made, rest-asks, rest-full, rest-joins, rest-done, a-asks, a-full, b-asks, b-full, rest-follows, meet-made}
+use Rattle.reduction.proofs.Deep.{form-const, form-asks, form-below, form-empty, form-deep, form-full, form-key, form-recalled, form-remembered, deep-asks, deep-asks-2, below-asks, below-done, meet-asks, meet-done, then-asks, then-full, else-asks, else-full, make-asks, below-made, rest-asks, rest-full, rest-joins, rest-done, a-asks, a-full, b-asks, b-full, rest-follows, meet-made}
 use Prim.Native.Nat.{ℕ, _<_, _*_, _+_, _-_}
 use borrow.Fn.Kinds.{In}
 use borrow.Fn.PlainCycle.{Measures, is, falls, and}
-use Rattle.normal.proofs.written.meet_rest.Reads as meet-rest
-use Rattle.normal.proofs.written.meet_rest.Kinds as meet-rest-kinds
-use Rattle.normal.proofs.written.+meet_rest+normal_below+normal_deep+normal_form+normal_meet.Lts-meet_rest as meet-rest-lts
-use Rattle.normal.proofs.written.normal_below.Reads as normal-below
-use Rattle.normal.proofs.written.normal_below.Kinds as normal-below-kinds
-use Rattle.normal.proofs.written.+meet_rest+normal_below+normal_deep+normal_form+normal_meet.Lts-normal_below as normal-below-lts
-use Rattle.normal.proofs.written.normal_deep.Reads as normal-deep
-use Rattle.normal.proofs.written.normal_deep.Kinds as normal-deep-kinds
-use Rattle.normal.proofs.written.+meet_rest+normal_below+normal_deep+normal_form+normal_meet.Lts-normal_deep as normal-deep-lts
-use Rattle.normal.proofs.written.normal_form.Reads as normal-form
-use Rattle.normal.proofs.written.normal_form.Kinds as normal-form-kinds
-use Rattle.normal.proofs.written.+meet_rest+normal_below+normal_deep+normal_form+normal_meet.Lts-normal_form as normal-form-lts
-use Rattle.normal.proofs.written.normal_meet.Reads as normal-meet
-use Rattle.normal.proofs.written.normal_meet.Kinds as normal-meet-kinds
-use Rattle.normal.proofs.written.+meet_rest+normal_below+normal_deep+normal_form+normal_meet.Lts-normal_meet as normal-meet-lts
-use Rattle.normal.proofs.leads.lead_at.Reads as lead-at-reads
-use Rattle.normal.proofs.written.join.Reads as join-reads
+use Rattle.reduction.proofs.meet_rest.Reads as meet-rest
+use Rattle.reduction.proofs.meet_rest.Kinds as meet-rest-kinds
+use Rattle.reduction.proofs.+meet_rest+normal_below+normal_deep+normal_form+normal_meet.Lts-meet_rest as meet-rest-lts
+use Rattle.reduction.proofs.normal_below.Reads as normal-below
+use Rattle.reduction.proofs.normal_below.Kinds as normal-below-kinds
+use Rattle.reduction.proofs.+meet_rest+normal_below+normal_deep+normal_form+normal_meet.Lts-normal_below as normal-below-lts
+use Rattle.reduction.proofs.normal_deep.Reads as normal-deep
+use Rattle.reduction.proofs.normal_deep.Kinds as normal-deep-kinds
+use Rattle.reduction.proofs.+meet_rest+normal_below+normal_deep+normal_form+normal_meet.Lts-normal_deep as normal-deep-lts
+use Rattle.reduction.proofs.normal_form.Reads as normal-form
+use Rattle.reduction.proofs.normal_form.Kinds as normal-form-kinds
+use Rattle.reduction.proofs.+meet_rest+normal_below+normal_deep+normal_form+normal_meet.Lts-normal_form as normal-form-lts
+use Rattle.reduction.proofs.normal_meet.Reads as normal-meet
+use Rattle.reduction.proofs.normal_meet.Kinds as normal-meet-kinds
+use Rattle.reduction.proofs.+meet_rest+normal_below+normal_deep+normal_form+normal_meet.Lts-normal_meet as normal-meet-lts
+use Rattle.leads.proofs.lead_at.Reads as lead-at-reads
+use Rattle.reduction.proofs.join.Reads as join-reads
 use Rattle.table.proofs.make.make.Reads as make-reads
 use Rattle.table.proofs.memory.key.Reads as key-reads
 use Rattle.table.proofs.memory.recall.Reads as recall-reads
 use Rattle.table.proofs.memory.remember.Reads as remember-reads
 use Rattle.table.proofs.rows.row_of.Reads as row-of-reads
-use Rattle.normal.proofs.written.+meet_rest+normal_below+normal_deep+normal_form+normal_meet.{
+use Rattle.reduction.proofs.+meet_rest+normal_below+normal_deep+normal_form+normal_meet.{
   statement,
 }
-use Rattle.normal.proofs.written.+meet_rest+normal_below+normal_deep+normal_form+normal_meet.Tie.{
+use Rattle.reduction.proofs.+meet_rest+normal_below+normal_deep+normal_form+normal_meet.Tie.{
   close,
 }
 

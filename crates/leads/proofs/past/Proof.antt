@@ -1,10 +1,10 @@
-use Rattle.normal.proofs.Walking.{is-past, is-at-lead}
+use Rattle.leads.proofs.Walking.{is-past, is-at-lead}
 use native.Mathlib.Omega.{arith}
 use borrow.Author.Needs.{needs}
-use Rattle.normal.proofs.leads.past.Statement.{statement}
-use Rattle.normal.proofs.leads.past.Tie as tie
-use Rattle.normal.proofs.leads.past.Reads as reads
-use Rattle.normal.proofs.leads.past.Lts as lts
+use Rattle.leads.proofs.past.Statement.{statement}
+use Rattle.leads.proofs.past.Tie as tie
+use Rattle.leads.proofs.past.Reads as reads
+use Rattle.leads.proofs.past.Lts as lts
 use Rattle.table.proofs.rows.row_of.Reads as row-of-reads
 
 row-of-requires : tie.Need-row-of-requires

@@ -3,12 +3,12 @@ use Prim.Native.Nat.{_-_, _+_}
 use mathlib.Core.Path.{sym}
 use borrow.Author.Needs.{needs}
 use Rattle.steps.specs.Table.{slices}
-use Rattle.normal.proofs.Filling.{from-fits, table-fits, no-table, Filling, fill-none, fill-starts, fill-ends, fill-asks, fill-there, fill-goes-on}
-use Rattle.normal.proofs.leads.fill.Statement.{statement}
-use Rattle.normal.proofs.leads.fill.Tie as tie
-use Rattle.normal.proofs.leads.fill.Reads as reads
-use Rattle.normal.proofs.leads.fill.Lts as lts
-use Rattle.normal.proofs.leads.past.Reads as past-reads
+use Rattle.leads.proofs.Filling.{from-fits, table-fits, no-table, Filling, fill-none, fill-starts, fill-ends, fill-asks, fill-there, fill-goes-on}
+use Rattle.leads.proofs.fill.Statement.{statement}
+use Rattle.leads.proofs.fill.Tie as tie
+use Rattle.leads.proofs.fill.Reads as reads
+use Rattle.leads.proofs.fill.Lts as lts
+use Rattle.leads.proofs.past.Reads as past-reads
 use Rattle.table.proofs.memory.words_used.Reads as words-used-reads
 
 abbrev Inv-loop : tie.InvT-loop

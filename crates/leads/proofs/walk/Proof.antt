@@ -1,11 +1,11 @@
 use native.Mathlib.Omega.{arith}
 use Prim.Native.Nat.{_-_}
 use Rattle.steps.specs.Table.{slices, rows-of}
-use Rattle.normal.proofs.Walking.{Walked, walk-asks, walk-starts, walk-ends, walk-on-asks, walk-falls, walk-goes-on}
-use Rattle.normal.proofs.leads.walk.Statement.{statement}
-use Rattle.normal.proofs.leads.walk.Tie as tie
-use Rattle.normal.proofs.leads.walk.Reads as reads
-use Rattle.normal.proofs.leads.walk.Lts as lts
+use Rattle.leads.proofs.Walking.{Walked, walk-asks, walk-starts, walk-ends, walk-on-asks, walk-falls, walk-goes-on}
+use Rattle.leads.proofs.walk.Statement.{statement}
+use Rattle.leads.proofs.walk.Tie as tie
+use Rattle.leads.proofs.walk.Reads as reads
+use Rattle.leads.proofs.walk.Lts as lts
 use Rattle.table.proofs.rows.row_of.Reads as row-of-reads
 
 abbrev Inv-loop : tie.InvT-loop

@@ -8,7 +8,7 @@ use Rattle.steps.proofs.Roots.{node-below}
 use Rattle.steps.proofs.Rows.{Node}
 use Rattle.steps.proofs.Table.{rows-of-next}
 use Rattle.table.specs.Lent.{Numbered}
-use Rattle.normal.specs.Inner.{Skips, stays, skips, Past, no-lead, at-lead, Walking}
+use Rattle.leads.specs.Inner.{Skips, stays, skips, Past, no-lead, at-lead, Walking}
 
 -- walking through the leads: what is left of f so far is g, whose row is (u, t, e)
 pub record Walked (N : ℕ) (R : Rows) (v f g u t e : ℕ) : Type 0 where

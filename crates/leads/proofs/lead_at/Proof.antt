@@ -1,13 +1,13 @@
 use native.Mathlib.Omega.{arith}
 use borrow.Author.Needs.{needs}
-use Rattle.normal.proofs.Filling.{from-fits, table-fits}
-use Rattle.normal.proofs.Tabling.{lead-asks, lead-walks, lead-stays, lead-read, lead-small}
+use Rattle.leads.proofs.Filling.{from-fits, table-fits}
+use Rattle.leads.proofs.Tabling.{lead-asks, lead-walks, lead-stays, lead-read, lead-small}
 use borrow.Author.Needs.{needs}
-use Rattle.normal.proofs.leads.lead_at.Statement.{statement}
-use Rattle.normal.proofs.leads.lead_at.Tie as tie
-use Rattle.normal.proofs.leads.lead_at.Reads as reads
-use Rattle.normal.proofs.leads.lead_at.Lts as lts
-use Rattle.normal.proofs.leads.walk.Reads as walk-reads
+use Rattle.leads.proofs.lead_at.Statement.{statement}
+use Rattle.leads.proofs.lead_at.Tie as tie
+use Rattle.leads.proofs.lead_at.Reads as reads
+use Rattle.leads.proofs.lead_at.Lts as lts
+use Rattle.leads.proofs.walk.Reads as walk-reads
 use Rattle.table.proofs.memory.words_used.Reads as words-used-reads
 use Rattle.table.proofs.rows.row_of.Reads as row-of-reads
 

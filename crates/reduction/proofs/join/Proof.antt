@@ -1,12 +1,12 @@
 use mathlib.Core.Path.{_∙_}
 use borrow.Author.Needs.{needs}
 use Rattle.sums.proofs.Keeping.{kept-is}
-use Rattle.normal.proofs.Deep.{join-asks, join-full, join-asks-2, join-done}
+use Rattle.reduction.proofs.Deep.{join-asks, join-full, join-asks-2, join-done}
 use borrow.Author.Needs.{needs}
-use Rattle.normal.proofs.written.join.Statement.{statement}
-use Rattle.normal.proofs.written.join.Tie as tie
-use Rattle.normal.proofs.written.join.Reads as reads
-use Rattle.normal.proofs.written.join.Lts as lts
+use Rattle.reduction.proofs.join.Statement.{statement}
+use Rattle.reduction.proofs.join.Tie as tie
+use Rattle.reduction.proofs.join.Reads as reads
+use Rattle.reduction.proofs.join.Lts as lts
 use Rattle.products.proofs.written.product.Reads as product-reads
 use Rattle.sums.proofs.written.sum.Reads as sum-reads
 

@@ -16,8 +16,8 @@ use Rattle.table.specs.Memory.{reach, Live}
 use Rattle.table.proofs.Buckets.{index-room}
 use Rattle.table.proofs.Links.{chains-same}
 use Rattle.table.proofs.Words.{reach-after, reach-fits}
-use Rattle.normal.specs.Inner.{Skips, stays, Past, no-lead, at-lead, System, Filled}
-use Rattle.normal.proofs.Skipping.{Left, skips-left, skips-same, skips-lead}
+use Rattle.leads.specs.Inner.{Skips, stays, Past, no-lead, at-lead, System, Filled}
+use Rattle.leads.proofs.Skipping.{Left, skips-left, skips-same, skips-lead}
 
 -- room for the table behind the remembered results, as the code tests it
 module _ (R L from : ℕ) (z : reach R L ≡ from) where

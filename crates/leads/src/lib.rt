@@ -1,4 +1,4 @@
-// For the written steps of the normal form: what is left of a system once the leads below a variable are skipped. The working slice has a table of it
+// For the crate above only, the written steps of the normal form: what is left of a system once the leads below a variable are skipped. The working slice has a table of it
 // where it is long enough, in the n words behind the remembered results; else the leads are walked through.
 use table::Row;
 use table::Var;
@@ -9,7 +9,7 @@ ghost use Prim.Native.Nat.{_<_};
 ghost use Rattle.steps.specs.Table.{slices, rows-of};
 ghost use Rattle.table.specs.Lent.{Numbered};
 ghost use Rattle.table.specs.Memory.{Live};
-ghost use Rattle.normal.specs.Inner.{Skips, Past, System, Walking, Reducing, Filled};
+ghost use Rattle.leads.specs.Inner.{Skips, Past, System, Walking, Reducing, Filled};
 
 // What is left of the system f, lead by lead.
 fn walk(vs: &[u16], ts: &[u16], es: &[u16], n: u16, count: usize, f: Row, v: Var) -> Row

@@ -1,13 +1,13 @@
 use mathlib.Core.Path.{_∙_}
 use borrow.Author.Needs.{needs}
-use Rattle.normal.proofs.CallLaws.{reduce-asks, reduce-done}
+use Rattle.reduction.proofs.Deep.{reduce-asks, reduce-done}
 use borrow.Author.Needs.{needs}
-use Rattle.normal.proofs.written.reduce.Statement.{statement}
-use Rattle.normal.proofs.written.reduce.Tie as tie
-use Rattle.normal.proofs.written.reduce.Reads as reads
-use Rattle.normal.proofs.written.reduce.Lts as lts
-use Rattle.normal.proofs.leads.fill.Reads as fill-reads
-use Rattle.normal.proofs.written.normal_form.Reads as normal-form-reads
+use Rattle.reduction.proofs.reduce.Statement.{statement}
+use Rattle.reduction.proofs.reduce.Tie as tie
+use Rattle.reduction.proofs.reduce.Reads as reads
+use Rattle.reduction.proofs.reduce.Lts as lts
+use Rattle.leads.proofs.fill.Reads as fill-reads
+use Rattle.reduction.proofs.normal_form.Reads as normal-form-reads
 
 fill-requires : tie.Need-fill-requires
 fill-requires c κs = let c8 = c .before .before .before .before .before .before .before .before in ((c8 .pre .live), (c8 .pre .system))

@@ -32,9 +32,10 @@ use Rattle.sums.proofs.Keeping.{kept-by, kept-nothing, kept-full, kept-then, ke
 use Rattle.sums.proofs.Recalling.{key-fits, steps-recalled, steps-remembered}
 use Rattle.products.specs.Inner.{Three}
 use Rattle.products.proofs.Deep.{multiplied}
-use Rattle.normal.specs.Inner.{Skips, Reducing, Reduces, Proper, Below, Meet, Rest, below-steps, join-steps, rest-steps, meet-steps}
-use Rattle.normal.proofs.Skipping.{skips-left, skips-normal, normal-empty}
-use Rattle.normal.proofs.Tabling.{left-reduces, others-reduce, reducing-keeps}
+use Rattle.leads.specs.Inner.{Skips, Filled, Reducing}
+use Rattle.reduction.specs.Inner.{Asked, Took, Reduces, Proper, Below, Meet, Rest, below-steps, join-steps, rest-steps, meet-steps}
+use Rattle.leads.proofs.Skipping.{skips-left, skips-normal, normal-empty}
+use Rattle.leads.proofs.Tabling.{left-reduces, others-reduce, reducing-keeps}
 
 in-rows : (s : Slices) (c k : ℕ) → k < c + 2 → k < next (rows-of s c)
 in-rows s c k h = omega (arith, rows-of-next s c)
@@ -337,3 +338,11 @@ module _ (N c : ℕ) (s : Slices) (work : List ℕ) (v t e f u : ℕ) (d : Meet 
 
       pub meet-made : {r : Made} {s₃ : Slices} {work₃ : List ℕ} → Kept N (rest-steps N (x .0) (y .0) e f) r n₂ s₂ s₃ work₂ work₃ → Kept N (meet-steps N t e f u) r c s s₃ work work₃
       meet-made m = kept-then (λ a. normal N t f >>= λ b. rest-steps N a b e f) keeps-b k (kept-then (λ b. rest-steps N (x .0) b e f) (λ b. keeps-rest N (x .0) b e f) l m)
+
+-- the whole normal form: the table of the system, then the steps
+module _ (N c : ℕ) (s : Slices) (work : List ℕ) (p f : ℕ) (d : Asked N c s work p f) (work′ : List ℕ) (e : Filled N c s work work′ f) where
+  pub reduce-asks : Reduces N c s work′ p f
+  reduce-asks = record { by = record { live = e .live; system = d .system; table = e .table }; used = d .used }
+
+  pub reduce-done : {r : Made} {s′ : Slices} {work″ : List ℕ} → Kept N (normal N p f) r c s s′ work′ work″ → Took N (normal N p f) r c s s′ work work″
+  reduce-done k = record { taken = k .taken; live = k .live; same-length = k .behind .same-length ∙ e .same-length }
