@@ -1,5 +1,4 @@
 // The calls equation and normal form.
-
 use reduction::reduce;
 use table::Answer;
 use table::Row;
@@ -40,16 +39,16 @@ fn equation_ready(
         return Answer::Refused(3);
     }
     if system.0 == 0 {
-        return Answer::Refused(4);
+        return Answer::Refused(4); // no system
     }
     if n <= lead.0 as usize {
-        return Answer::Refused(5);
+        return Answer::Refused(5); // no such lead
     }
     if row_of(vs, ts, es, count, n as u16, system).v.0 <= lead.0 {
-        return Answer::Refused(5);
+        return Answer::Refused(5); // not before the system's leads
     }
     if row_of(vs, ts, es, count, n as u16, tail).v.0 <= lead.0 {
-        return Answer::Refused(5);
+        return Answer::Refused(5); // not before the tail's root
     }
     let made = make(
         vs,
@@ -115,21 +114,21 @@ fn normal_ready(
     count: usize,
     work: &mut [u64],
     p: Row,
-    system: Row,
+    f: Row,
 ) -> Answer
     requires { ⌜ (Live n count (slices (now vs) (now ts) (now es)) (now work)) × (n ≤ 1024) ⌝ }
-    ensures { λ r. ⌜ Does (Reduced count (slices (now (vs .entry)) (now (ts .entry)) (now (es .entry))) (p .0) (system .0)) (normal-checked n count (slices (now (vs .entry)) (now (ts .entry)) (now (es .entry))) (p .0) (system .0)) r (slices (now (vs .exit)) (now (ts .exit)) (now (es .exit))) ⌝ }
+    ensures { λ r. ⌜ Does (Reduced count (slices (now (vs .entry)) (now (ts .entry)) (now (es .entry))) (p .0) (f .0)) (normal-checked n count (slices (now (vs .entry)) (now (ts .entry)) (now (es .entry))) (p .0) (f .0)) r (slices (now (vs .exit)) (now (ts .exit)) (now (es .exit))) ⌝ }
 {
     if count + 2 <= p.0 as usize {
         return Answer::Refused(3);
     }
-    if count + 2 <= system.0 as usize {
+    if count + 2 <= f.0 as usize {
         return Answer::Refused(3);
     }
-    if system.0 == 0 {
+    if f.0 == 0 {
         return Answer::Refused(4);
     }
-    let made = reduce(vs, ts, es, work, n as u16, count, p, system);
+    let made = reduce(vs, ts, es, work, n as u16, count, p, f);
     finish(vs, ts, es, count, made)
 }
 
@@ -141,19 +140,19 @@ fn normal_checked(
     count: usize,
     work: &mut [u64],
     p: Row,
-    system: Row,
+    f: Row,
 ) -> Answer
-    ensures { λ r. ⌜ Does (Reduced count (slices (now (vs .entry)) (now (ts .entry)) (now (es .entry))) (p .0) (system .0)) (normal-call n count (slices (now (vs .entry)) (now (ts .entry)) (now (es .entry))) (p .0) (system .0)) r (slices (now (vs .exit)) (now (ts .exit)) (now (es .exit))) ⌝ }
+    ensures { λ r. ⌜ Does (Reduced count (slices (now (vs .entry)) (now (ts .entry)) (now (es .entry))) (p .0) (f .0)) (normal-call n count (slices (now (vs .entry)) (now (ts .entry)) (now (es .entry))) (p .0) (f .0)) r (slices (now (vs .exit)) (now (ts .exit)) (now (es .exit))) ⌝ }
 {
     let table = check(n, vs, ts, es, count, work);
     match table {
         Table::OutOfRange => Answer::Refused(1),
         Table::Unsound => Answer::Refused(2),
-        Table::Fine => normal_ready(n, vs, ts, es, count, work, p, system),
+        Table::Fine => normal_ready(n, vs, ts, es, count, work, p, f),
     }
 }
 
-// The normal form of p by the system.
+// The normal form of p by the system f.
 pub fn normal_form(
     n: usize,
     vs: &mut [u16],
@@ -162,12 +161,12 @@ pub fn normal_form(
     count: usize,
     work: &mut [u64],
     p: Row,
-    system: Row,
+    f: Row,
 ) -> Answer
-    ensures { λ r. ⌜ Does (Reduced count (slices (now (vs .entry)) (now (ts .entry)) (now (es .entry))) (p .0) (system .0)) (normal-call n count (slices (now (vs .entry)) (now (ts .entry)) (now (es .entry))) (p .0) (system .0)) r (slices (now (vs .exit)) (now (ts .exit)) (now (es .exit))) ⌝ }
+    ensures { λ r. ⌜ Does (Reduced count (slices (now (vs .entry)) (now (ts .entry)) (now (es .entry))) (p .0) (f .0)) (normal-call n count (slices (now (vs .entry)) (now (ts .entry)) (now (es .entry))) (p .0) (f .0)) r (slices (now (vs .exit)) (now (ts .exit)) (now (es .exit))) ⌝ }
     ensures { λ _. ⌜ now (work .exit) ≡ replicate (length (now (work .entry))) 0 ⌝ }
 {
-    let r = normal_checked(n, vs, ts, es, count, work, p, system);
+    let r = normal_checked(n, vs, ts, es, count, work, p, f);
     zero_work(work);
     r
 }
