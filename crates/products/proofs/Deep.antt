@@ -20,35 +20,16 @@ use Rattle.table.specs.Memory.{Live}
 use Rattle.table.specs.Inner.{Taken, Entered, Kept}
 use Rattle.table.proofs.Takes.{taken-rows}
 use Rattle.sums.specs.Inner.{Pair, depth, Split}
-use Rattle.sums.proofs.Keeping.{kept-by, kept-full, kept-then, kept-made}
+use Rattle.sums.proofs.Keeping.{kept-by, kept-full, kept-then, kept-made, Step, stepped}
 use Rattle.sums.proofs.Splits.{At, split-at, deeper}
 use Rattle.products.specs.Inner.{Proper, Three, Quad, three-steps, rest-steps, then-steps, depth-rest, depth-then}
 use Rattle.products.proofs.Parts.{apart, split-product, then-right}
 
--- steps that were taken in a live table
-record Step (N : ℕ) (c : ℕ) (s : Slices) (k n : ℕ) (s′ : Slices) : Type 0 where
-  grown : rows-of s c ≼ rows-of s′ n
-  used : k < n + 2
-  still : (x : ℕ) → x < c + 2 → x < n + 2
-  same-root : (x : ℕ) → x < c + 2 → root N (rows-of s′ n) x ≡ root N (rows-of s c) x
-
-stepped : {N : ℕ} {m : Steps} {low : ℕ} {p : Assignment → Bool} {c : ℕ} {s : Slices} {k : Row} {n : ℕ} {s′ : Slices} {work work′ : List ℕ}
-    → Right N m (rows-of s c) low p → Kept N m (Made-at k n) c s s′ work work′ → Step N c s (k .0) n s′
-stepped {N} {m} {c = c} {s} {k} {n} {s′} r d =
-    let made = taken-rows (d .taken) in
-    let g : rows-of s c ≼ rows-of s′ n = rw made at (r .appends) in
-    record {
-      grown = g;
-      used = omega (arith, rows-of-next s′ n, rw made at (r .used));
-      still = λ x h. omega (arith, d .taken .rest .more);
-      same-root = λ x h. ap (λ z. z .var) (row-keeps N g x (omega (arith, rows-of-next s c)));
-    }
-
 module _ (N c : ℕ) (s : Slices) (work : List ℕ) (live : Live N c s work) (x y : ℕ) (ux : x < c + 2) (uy : y < c + 2) (k : Row) (n : ℕ) (s′ : Slices) (work′ : List ℕ) where
-  summed : Kept N (sum N x y) (Made-at k n) c s s′ work work′ → Step N c s (k .0) n s′
+  pub summed : Kept N (sum N x y) (Made-at k n) c s s′ work work′ → Step N c s (k .0) n s′
   summed d = stepped (sum-right N (rows-of s c) (live .sound) x y (omega (arith, rows-of-next s c)) (omega (arith, rows-of-next s c)) 0 (omega arith) (omega arith)) d
 
-  multiplied : Kept N (product N x y) (Made-at k n) c s s′ work work′ → Step N c s (k .0) n s′
+  pub multiplied : Kept N (product N x y) (Made-at k n) c s s′ work work′ → Step N c s (k .0) n s′
   multiplied d = stepped (product-right N (rows-of s c) (live .sound) x y (omega (arith, rows-of-next s c)) (omega (arith, rows-of-next s c)) 0 (omega arith) (omega arith)) d
 
 -- the two sums

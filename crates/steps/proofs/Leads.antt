@@ -24,11 +24,11 @@ beq-refl : (a : Bool) → Bool·beq a a ≡ true
 beq-refl true = refl
 beq-refl false = refl
 
-holds-older : (a : Assignment) (R : Rows) (r : Row) (k : ℕ) → k < next R → holds a (R ▹ r) k ≡ holds a R k
+pub holds-older : (a : Assignment) (R : Rows) (r : Row) (k : ℕ) → k < next R → holds a (R ▹ r) k ≡ holds a R k
 unfolding holds
 holds-older a R r k h = rw (ne-eqb k (next R) (λ q. omega arith), holds)
 
-holds-newest : (a : Assignment) (R : Rows) (r : Row) → holds a (R ▹ r) (next R) ≡ Bool·beq (a (r .var)) (value a R (r .else-part)) && holds a R (r .then-part)
+pub holds-newest : (a : Assignment) (R : Rows) (r : Row) → holds a (R ▹ r) (next R) ≡ Bool·beq (a (r .var)) (value a R (r .else-part)) && holds a R (r .then-part)
 unfolding holds
 holds-newest a R r = rw (eq-eqb (next R) (next R) refl, holds)
 

@@ -21,4 +21,5 @@ pub mod Stepwise
 pub mod Comm
 pub mod Laws
 pub mod Theorems
+pub mod Equations
 pub mod Cases

@@ -2,14 +2,17 @@
 use Prim.Native.Nat.{ℕ, _+_, _<_, _≤_}
 use mathlib.Core.Path.{_≡_, refl, sym, ap, subst, _∙_}
 use mathlib.Core.List.{List}
+use mathlib.Core.Bool.{Bool}
 use native.Mathlib.Omega.{arith}
 use lib.ListN.{length}
-use Rattle.steps.specs.Rows.{Rows, next}
+use Rattle.steps.specs.Rows.{Rows, next, root, Assignment}
 use Rattle.steps.specs.Sound.{Sound}
 use Rattle.steps.specs.Steps.{Steps, answer, _>>=_}
 use Rattle.steps.specs.Table.{Slices, rows-of}
 use Rattle.steps.proofs.Keeps.{Keeps}
-use Rattle.steps.proofs.Rows.{_≼_}
+use Rattle.steps.proofs.Rows.{_≼_, row-keeps}
+use Rattle.steps.proofs.Table.{rows-of-next}
+use Rattle.steps.proofs.Theorems.{Right}
 use Rattle.table.specs.declared.Row.{Row}
 use Rattle.table.specs.declared.make.Made.{Made}
 use Rattle.table.specs.declared.make.Made.the-variants.{At, Full}
@@ -53,3 +56,22 @@ live-made Full d e g w = tt
 pub kept-made : {N : ℕ} {m : Steps} {r : Made} {c : ℕ} {s s′ : Slices} {work work′ : List ℕ} → Live N c s work → Entered m r c s s′ work work′
     → rows-of s c ≼ m (rows-of s c) .rows → Sound N (m (rows-of s c) .rows) → Kept N m r c s s′ work work′
 kept-made {r = r} d e g w = record { taken = e .taken; live = live-made r d e g w; behind = behind-front (e .front) }
+
+-- steps that were taken in a live table
+pub record Step (N : ℕ) (c : ℕ) (s : Slices) (k n : ℕ) (s′ : Slices) : Type 0 where
+  pub grown : rows-of s c ≼ rows-of s′ n
+  pub used : k < n + 2
+  pub still : (x : ℕ) → x < c + 2 → x < n + 2
+  pub same-root : (x : ℕ) → x < c + 2 → root N (rows-of s′ n) x ≡ root N (rows-of s c) x
+
+pub stepped : {N : ℕ} {m : Steps} {low : ℕ} {p : Assignment → Bool} {c : ℕ} {s : Slices} {k : Row} {n : ℕ} {s′ : Slices} {work work′ : List ℕ}
+    → Right N m (rows-of s c) low p → Kept N m (At k n) c s s′ work work′ → Step N c s (k .0) n s′
+stepped {N} {m} {c = c} {s} {k} {n} {s′} r d =
+    let made = taken-rows (d .taken) in
+    let g : rows-of s c ≼ rows-of s′ n = rw made at (r .appends) in
+    record {
+      grown = g;
+      used = omega (arith, rows-of-next s′ n, rw made at (r .used));
+      still = λ x h. omega (arith, d .taken .rest .more);
+      same-root = λ x h. ap (λ z. z .var) (row-keeps N g x (omega (arith, rows-of-next s c)));
+    }

@@ -1,5 +1,7 @@
 pub mod Keeping
 pub mod Splits
+pub mod Recalling
 pub mod Remembering
 pub mod Deep
+pub mod CallEnds
 pub mod PairCalls

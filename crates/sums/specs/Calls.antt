@@ -18,15 +18,22 @@ pair-checked m c s f g = unless in-use c f && in-use c g then refuse 3 s else ta
 unfoldable pub pair-call : ℕ → Steps → ℕ → Slices → ℕ → ℕ → Left
 pair-call N m c s f g = checked (in-range N c s) (sound N (rows-of s c)) (λ why. refuse why s) (pair-checked m c s f g)
 
--- the number that was made has, at every assignment, the value that op makes of the operands' values
-abbrev pub Means : (Bool → Bool → Bool) → Answer → ℕ → Slices → Slices → ℕ → ℕ → Type 0
-Means op (Made k n) c s s′ f g = (a : Assignment) → value a (rows-of s′ n) (k .0) ≡ op (value a (rows-of s c) f) (value a (rows-of s c) g)
-Means op (Refused why) c s s′ f g = Unit {0}
+-- what is meant of a number k that was made, with n rows then in use in the slices s′
+abbrev pub IfMade : (ℕ → ℕ → Slices → Type 0) → Answer → Slices → Type 0
+IfMade Meant (Made k n) s′ = Meant (k .0) n s′
+IfMade Meant (Refused why) s′ = Unit {0}
 
--- a call on f and g: its answer and slices are those of its definition, and its number means what it must
-pub record Answered (op : Bool → Bool → Bool) (call : Left) (r : Answer) (c : ℕ) (s s′ : Slices) (f g : ℕ) : Type 0 where
+-- WHAT A CALL THAT MAY APPEND PROMISES: its answer and slices are those of its definition, and its number means what it must
+pub record Does (Meant : ℕ → ℕ → Slices → Type 0) (call : Left) (r : Answer) (s′ : Slices) : Type 0 where
   pub is : call ≡ left r s′
-  pub means : Means op r c s s′ f g
+  pub means : IfMade Meant r s′
+
+-- the number has, at every assignment, the value that op makes of the operands' values
+abbrev pub Means : (Bool → Bool → Bool) → ℕ → Slices → ℕ → ℕ → ℕ → ℕ → Slices → Type 0
+Means op c s f g k n s′ = (a : Assignment) → value a (rows-of s′ n) k ≡ op (value a (rows-of s c) f) (value a (rows-of s c) g)
+
+abbrev pub Answered : (Bool → Bool → Bool) → Left → Answer → ℕ → Slices → Slices → ℕ → ℕ → Type 0
+Answered op call r c s s′ f g = Does (Means op c s f g) call r s′
 
 -- the sum f + g
 abbrev pub sum-call : ℕ → ℕ → Slices → ℕ → ℕ → Left

@@ -95,7 +95,7 @@ module _ (N : ℕ) where
   unfolding steps-of
   steps-product f g = refl
 
-  steps-normal : (op f g : ℕ) → (op ≡ 1 → ⊥) → (op ≡ 2 → ⊥) → steps-of N op f g ≡ normal N f g
+  pub steps-normal : (op f g : ℕ) → (op ≡ 1 → ⊥) → (op ≡ 2 → ⊥) → steps-of N op f g ≡ normal N f g
   unfolding steps-of
   steps-normal op f g h k = rw (ne-eqb op 1 h, ne-eqb op 2 k, steps-of)
 

@@ -1,0 +1,4 @@
+pub mod Skipping
+pub mod Walking
+pub mod Filling
+pub mod Tabling
