@@ -7,16 +7,16 @@ use native.Mathlib.Omega.{arith}
 use lib.Dec.{eqb, ltb}
 use borrow.Author.Tests.{ltb-true, ltb-false, lt-ltb, le-ltb}
 use Rattle.steps.specs.One.{put}
-use Rattle.steps.specs.Rows.{Row, row-of, Rows, none, next, Assignment, value, row, find}
+use Rattle.steps.specs.Rows.{Row, row-of, Rows, none, next, Assignment, value, row}
 use Rattle.steps.specs.Sound.{Sound}
 use Rattle.steps.specs.Steps.{Answer, Steps, answer, _>>=_, make, product, normal}
 use Rattle.steps.specs.System.{equation}
-use Rattle.steps.proofs.Found.{found}
+use Rattle.steps.proofs.Equations.{made-row}
 use Rattle.steps.proofs.Keeps.{Keeps, keeps-bind, keeps-make, keeps-products, keeps-normals}
 use Rattle.steps.proofs.Normal.{Sys, sys-keeps, ok-normals}
-use Rattle.steps.proofs.Ok.{Is, Ok, is-keeps, is-as, ok-as, ok-answer, ok-by, ok-make, make-found, make-new}
+use Rattle.steps.proofs.Ok.{Is, Ok, is-keeps, is-as, ok-as, ok-answer, ok-by, ok-make}
 use Rattle.steps.proofs.Product.{ok-products}
-use Rattle.steps.proofs.Rows.{_≼_, stop, ≼-trans, next-2, value-0, value-1, row-const, row-newest}
+use Rattle.steps.proofs.Rows.{_≼_, stop, ≼-trans, next-2, value-0, value-1, row-const}
 use Rattle.steps.proofs.Solve.{solve-node, solve-const}
 use Rattle.aiger.specs.Form.{Gate, if_then_else_}
 use Rattle.aiger.specs.Meaning.{literal, run}
@@ -106,17 +106,6 @@ module _ (N : ℕ) where
 
   -- a gate
 
-  -- a made row is the row that was asked for
-  made-row : (v t e : ℕ) (R : Rows) → (t ≡ 0 → ⊥) → row N (make v t e R .rows) (make v t e R .num) ≡ row-of v t e
-  made-row v t e R h = go (find R r) refl
-    where
-      r : Row
-      r = row-of v t e
-
-      go : (n : ℕ) → find R r ≡ n → row N (make v t e R .rows) (make v t e R .num) ≡ r
-      go zero f = rw (make-new N v t e R h f) (row-newest N R r)
-      go (suc k) f = rw (make-found N v t e k R h f) (found N R r k f .is)
-
   -- steps that leave a system, which makes σ a of a
   pub record Leaves (m : Steps) (R : Rows) (low : ℕ) (σ : Assignment → Assignment) : Type 0 where
     pub num : ℕ
@@ -135,7 +124,7 @@ module _ (N : ℕ) where
       → Leaves (equation i s t) R i (λ a. put (σ a) i (p (σ a)))
   add-equation R w i s t σ p b y j =
       let o = ok-make N w b (record { used = y .used; above = y .above; means = λ a. refl }) j in
-      let r : _≡_ {A = Row} (row N (o .rows) (o .num)) (row-of i s t) = rw (o .runs) at (made-row i s t R (y .not-0)) in
+      let r : _≡_ {A = Row} (row N (o .rows) (o .num)) (row-of i s t) = rw (o .runs) at (made-row N i s t R (y .not-0)) in
       let g : 2 ≤ o .num = inner-row (o .rows) (o .num) (rw r b) in
       let y′ = sys-keeps N (o .keeps) y in
       let j′ = is-keeps N (o .keeps) j in
