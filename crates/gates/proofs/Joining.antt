@@ -1,15 +1,15 @@
 -- Literals and gates in a table: how their steps are put together.
-use Prim.Native.Nat.{ℕ, zero, suc, _+_, _-_, _/_, _%_, _<_, _≤_}
-use mathlib.Core.Path.{_≡_, refl, sym, ap, _∙_}
+use Prim.Native.Nat.{ℕ, suc, _+_, _-_, _/_, _%_, _<_, _≤_}
+use mathlib.Core.Path.{_≡_, _∙_}
 use mathlib.Core.Bool.{Bool, _&&_}
 use mathlib.Core.List.{List}
 use native.Mathlib.Omega.{arith}
-use Rattle.steps.specs.Rows.{Rows, next, root, Assignment, value}
-use Rattle.steps.specs.Steps.{Steps, answer, _>>=_, make, product}
+use Rattle.steps.specs.Rows.{root, Assignment, value}
+use Rattle.steps.specs.Steps.{Steps, _>>=_, make, product}
 use Rattle.steps.specs.System.{equation}
 use Rattle.steps.specs.Table.{Slices, rows-of}
 use Rattle.steps.proofs.Keeps.{Keeps, keeps-make, keeps-products}
-use Rattle.steps.proofs.Rows.{_≼_, next-grows, row-keeps}
+use Rattle.steps.proofs.Rows.{_≼_, row-keeps}
 use Rattle.steps.proofs.Table.{rows-of-next}
 use Rattle.steps.proofs.Theorems.{Right, right, make-right, product-right}
 use Rattle.table.specs.declared.Row.{Row}

@@ -1,9 +1,9 @@
 -- The system of all gates, one gate after the other.
-use Prim.Native.Nat.{ℕ, zero, suc, _+_, _-_, _/_, _<_, _≤_}
+use Prim.Native.Nat.{ℕ, suc, _+_, _-_, _/_, _<_, _≤_}
 use mathlib.Core.Path.{_≡_, refl, sym, ap, subst, _∙_}
 use mathlib.Core.List.{List, [], _∷_}
 use native.Mathlib.Omega.{arith}
-use lib.ListN.{length, drop, drop-of-length-le}
+use lib.ListN.{drop, drop-of-length-le}
 use Rattle.steps.specs.Rows.{Rows, root}
 use Rattle.steps.specs.Steps.{Answer, answer, _>>=_}
 use Rattle.steps.specs.Table.{Slices, rows-of}
@@ -23,8 +23,8 @@ use Rattle.aiger.specs.Form.{Gate}
 use Rattle.aiger.proofs.Accepted.{Ascending}
 use Rattle.aiger.proofs.InSlices.{gateAt, gates-from, length-gates}
 use Rattle.verdicts.specs.Systems.{gate-steps, build}
-use Rattle.verdicts.proofs.Building.{Next, Leaves, gate-leaves, keeps-build}
-use Rattle.gates.specs.Inner.{Behind, GateAsked, BuildAsked}
+use Rattle.verdicts.proofs.Building.{Next, gate-leaves, keeps-build}
+use Rattle.gates.specs.Inner.{GateAsked, BuildAsked}
 
 build-none : (N F : ℕ) (R : Rows) → build N [] F R ≡ answer F R
 unfolding build

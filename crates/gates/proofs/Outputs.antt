@@ -3,10 +3,10 @@ use Prim.Native.Nat.{ℕ, suc, _+_, _/_, _<_, _≤_}
 use mathlib.Core.Path.{_≡_, refl, sym, ap, _∙_}
 use mathlib.Core.List.{List}
 use native.Mathlib.Omega.{arith}
-use Rattle.steps.specs.Rows.{Rows, none}
+use Rattle.steps.specs.Rows.{none}
 use Rattle.steps.specs.Steps.{Answer, Steps, answer, _>>=_, normal}
 use Rattle.steps.specs.Table.{Slices, rows-of}
-use Rattle.steps.proofs.Keeps.{Keeps, keeps-normals}
+use Rattle.steps.proofs.Keeps.{keeps-normals}
 use Rattle.steps.proofs.Table.{rows-of-next}
 use Rattle.table.specs.declared.Row.{Row}
 use Rattle.table.specs.declared.make.Made.{Made}

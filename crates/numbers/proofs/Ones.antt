@@ -25,12 +25,12 @@ use Rattle.numbers.specs.Calls.{assigned, bit, bytes-of}
 use Rattle.numbers.specs.Inner.{Lasting}
 use Rattle.table.specs.Lent.{room, Lent, Stands}
 
-bytes-length : (n : ℕ) (a : Assignment) → length (bytes-of n a) ≡ n
+pub bytes-length : (n : ℕ) (a : Assignment) → length (bytes-of n a) ≡ n
 unfolding bytes-of
 bytes-length zero a = refl
 bytes-length (suc n) a = length-append (bytes-of n a) (bit (a n) ∷ []) ∙ rw (bytes-length n a) (omega arith)
 
-bytes-at : (n : ℕ) (a : Assignment) (i : ℕ) → i < n → getD (bytes-of n a) i 0 ≡ bit (a i)
+pub bytes-at : (n : ℕ) (a : Assignment) (i : ℕ) → i < n → getD (bytes-of n a) i 0 ≡ bit (a i)
 unfolding bytes-of
 bytes-at zero a i h = absurd (omega arith)
 bytes-at (suc n) a i h = go (ℕ-discrete i n) (bytes-at n a i)

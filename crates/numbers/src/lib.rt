@@ -1,6 +1,7 @@
-// The public calls on a table that need no arithmetic: the variable x_v, the value of a number at an assignment, and a one of it.
+// The public calls on a table that need no arithmetic: the variable x_v, the value of a number at an assignment, and a one of it; and finding a one for the
+// crates above.
 mod evaluate;
-mod seek;
+pub mod seek;
 
 use crate::evaluate::value_at;
 use crate::seek::one_of;

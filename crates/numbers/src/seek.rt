@@ -1,4 +1,4 @@
-// Finding a one: at each row the else-part is followed unless it is 0.
+// For the crates above: finding a one. At each row the else-part is followed unless it is 0.
 use table::Row;
 use table::clear::zero_bytes;
 use table::rows::node_at;

@@ -11,10 +11,10 @@ use Rattle.steps.specs.Rows.{Row, row-of, Rows, none, next, Assignment, value, 
 use Rattle.steps.specs.Sound.{Sound}
 use Rattle.steps.specs.Steps.{Answer, Steps, answer, _>>=_, make, product, normal}
 use Rattle.steps.specs.System.{equation}
+use Rattle.steps.proofs.Equations.{made-row}
 use Rattle.steps.proofs.Keeps.{Keeps, keeps-bind, keeps-make, keeps-products, keeps-normals}
 use Rattle.steps.proofs.Normal.{Sys, sys-keeps, ok-normals}
 use Rattle.steps.proofs.Ok.{Is, Ok, is-keeps, is-as, ok-as, ok-answer, ok-by, ok-make}
-use Rattle.steps.proofs.Equations.{made-row}
 use Rattle.steps.proofs.Product.{ok-products}
 use Rattle.steps.proofs.Rows.{_≼_, stop, ≼-trans, next-2, value-0, value-1, row-const}
 use Rattle.steps.proofs.Solve.{solve-node, solve-const}

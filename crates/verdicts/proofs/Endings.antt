@@ -2,16 +2,13 @@
 use Prim.Native.Nat.{ℕ, zero, suc}
 use mathlib.Core.Path.{_≡_, refl, sym, ap, _∙_}
 use mathlib.Core.List.{List}
-use native.Mathlib.Omega.{arith}
 use lib.ListN.{getD}
 use Rattle.steps.specs.One.{one}
-use Rattle.steps.specs.Room.{Ending, made, full, within}
-use Rattle.steps.specs.Rows.{Rows, none, count}
+use Rattle.steps.specs.Room.{Ending, made, within}
 use Rattle.steps.specs.Steps.{Steps}
 use Rattle.steps.specs.Table.{Slices, rows-of}
 use Rattle.steps.proofs.Table.{rows-of-count}
 use Rattle.table.specs.declared.Row.{Row}
-use Rattle.table.specs.declared.make.Made.{Made}
 use Rattle.table.specs.declared.make.Made.the-variants.{At, Full}
 use Rattle.table.specs.Calls.{laid, cleared, Left as TableLeft, end-in}
 use Rattle.table.specs.Inner.{Taken}
@@ -21,7 +18,7 @@ use Rattle.aiger.specs.Net.{Net}
 use Rattle.verdicts.specs.Calls.{verdict-0, verdict-1, verdict-2, left, end-with}
 use Rattle.verdicts.specs.Patterns.{bytes, pattern-of}
 use Rattle.verdicts.specs.Systems.{output-steps}
-use Rattle.verdicts.specs.Verdicts.{Verdict, never, can, judged, verdict-of}
+use Rattle.verdicts.specs.Verdicts.{Verdict, judged, verdict-of}
 
 -- from an empty table: the rows in use are those that stand there, and nothing behind them was touched
 module _ {m : Steps} (s : Slices) (lent : Lent 0 s) where

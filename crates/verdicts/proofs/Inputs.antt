@@ -5,11 +5,11 @@ use mathlib.Core.Bool.{Bool, true, false, _&&_, _||_}
 use mathlib.Core.List.{List, [], _∷_, _++_, map}
 use native.Mathlib.Omega.{arith}
 use lib.Dec.{eqb}
-use lib.ListN.{length, getD, length-map}
+use lib.ListN.{length, getD}
 use borrow.Author.Tests.{eqb-true, eqb-false}
 use Rattle.steps.specs.One.{put}
 use Rattle.steps.specs.Rows.{Assignment}
-use Rattle.aiger.specs.Form.{Gate, if_then_else_}
+use Rattle.aiger.specs.Form.{if_then_else_}
 use Rattle.aiger.specs.Meaning.{Values, literal, assign, feed, run, values}
 use Rattle.aiger.specs.Net.{Net, defined, lefts}
 use Rattle.aiger.proofs.Accepted.{News, Knowns, Accepted}

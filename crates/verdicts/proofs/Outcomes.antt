@@ -2,26 +2,24 @@
 use Prim.Native.Nat.{ℕ, zero, suc, _<_, _≤_}
 use mathlib.Core.Path.{_≡_, refl, sym, ap, _∙_}
 use mathlib.Core.Bool.{Bool, true, false}
-use mathlib.Core.List.{List, [], _∷_, _++_, append-assoc}
+use mathlib.Core.List.{List, [], _∷_, _++_}
 use native.Mathlib.Omega.{arith}
 use lib.Dec.{eqb, ltb}
-use lib.ListN.{length, getD, drop, length-append}
+use lib.ListN.{length, drop, length-append}
 use lib.Seq.{append-snoc, getD-at}
 use borrow.Author.Tests.{eqb-true, eqb-false, eq-eqb, ne-eqb, ltb-true, ltb-false, lt-ltb, le-ltb}
 use Rattle.steps.specs.One.{one}
 use Rattle.steps.specs.Room.{made, within}
 use Rattle.steps.specs.Rows.{Row, Rows, none, _▹_, count}
 use Rattle.steps.specs.Steps.{Answer as StepsAnswer, answer}
-use Rattle.steps.specs.Table.{Slices, slices, row-at, rows-of}
+use Rattle.steps.specs.Table.{Slices, slices, rows-of}
 use Rattle.steps.proofs.Room.{Fit, fits, over, fit}
 use Rattle.table.specs.Lent.{room}
 use Rattle.table.specs.Calls.{column, laid}
-use Rattle.aiger.specs.Answers.{numberOfRefusal}
 use Rattle.aiger.specs.Net.{Got, got, refused, Net, circuit}
-use Rattle.aiger.specs.declared.net.Refusal.{Refusal}
-use Rattle.verdicts.specs.Calls.{Answer, verdict-0, verdict-1, verdict-2, refusal, Left, left, refuse, lengths-fine, end-with, judge, judge-read, circuit-call}
+use Rattle.verdicts.specs.Calls.{Answer, refusal, Left, refuse, lengths-fine, end-with, judge, judge-read, circuit-call}
 use Rattle.verdicts.specs.Patterns.{pattern-of}
-use Rattle.verdicts.specs.Verdicts.{Verdict, never, can, room-out, judged, verdict-of}
+use Rattle.verdicts.specs.Verdicts.{never, can, room-out, judged, verdict-of}
 
 -- the refusals, in their order
 

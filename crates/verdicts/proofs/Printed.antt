@@ -1,7 +1,7 @@
 -- The scope's printed run: "With 9 rows the verdicts are 0 and 1; with 8 they are 2 and 1; with 7 both are 2."
 use Prim.Native.Nat.{ℕ, _+_, _*_}
 use mathlib.Core.Path.{_≡_, refl}
-use mathlib.Core.Bool.{Bool, true, false, _&&_}
+use mathlib.Core.Bool.{Bool, true, _&&_}
 use mathlib.Core.List.{List, [], _∷_}
 use lib.Dec.{eqb}
 use Rattle.steps.specs.One.{put, one}

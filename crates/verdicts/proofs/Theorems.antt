@@ -4,7 +4,7 @@ use mathlib.Core.Path.{_≡_, refl, sym, ap, subst, _∙_}
 use mathlib.Core.Bool.{Bool, true, false}
 use mathlib.Core.List.{List, [], _∷_}
 use native.Mathlib.Omega.{arith}
-use lib.Dec.{eqb, leb, ltb}
+use lib.Dec.{eqb, ltb}
 use lib.ListN.{length, length-map}
 use Rattle.steps.specs.Rows.{Rows}
 use Rattle.steps.specs.One.{one}
@@ -13,7 +13,7 @@ use Rattle.table.specs.Lent.{room}
 use Rattle.table.specs.Calls.{unless_then_else_, laid, cleared}
 use Rattle.aiger.specs.Net.{Got, got, refused, Net, circuit}
 use Rattle.aiger.proofs.Accepted.{Accepted, accepted}
-use Rattle.verdicts.specs.Calls.{Answer, verdict-0, verdict-1, verdict-2, refusal, rows-made, Left, left, refuse, lengths-fine, end-with, judge, judge-read, circuit-call}
+use Rattle.verdicts.specs.Calls.{Answer, verdict-0, verdict-1, verdict-2, refusal, rows-made, Left, left, refuse, lengths-fine, end-with, judge-read, circuit-call}
 use Rattle.verdicts.specs.Systems.{ring}
 use Rattle.verdicts.specs.Patterns.{pattern-of, byte, bytes, bits, output-value, NotGreater}
 use Rattle.verdicts.specs.Verdicts.{Verdict, never, can, room-out, output-rows, rows-needed, verdict-of}

@@ -1,7 +1,6 @@
 -- A circuit's gates become a system, and an output is reduced by it: the steps of the scope's 'AIGER text'.
 -- Assumes nothing: these are definitions.
 use Prim.Native.Nat.{ℕ, _-_, _/_, _%_}
-use mathlib.Core.Bool.{true, false}
 use mathlib.Core.List.{List, [], _∷_}
 use lib.Dec.{ltb}
 use Rattle.steps.specs.Steps.{Steps, answer, _>>=_, if_then_else_, make, product, normal}
