@@ -87,7 +87,7 @@ unfolding rows-of
 from-nothing s = refl
 
 -- the inputs are literals of ring variables
-inputs-at : (M : ℕ) (ls more : List ℕ) → News M ls more → (i : ℕ) → i < length more → (2 ≤ getD more i 0) × (getD more i 0 ≤ 2 * M + 1)
+pub inputs-at : (M : ℕ) (ls more : List ℕ) → News M ls more → (i : ℕ) → i < length more → (2 ≤ getD more i 0) × (getD more i 0 ≤ 2 * M + 1)
 unfolding News
 inputs-at M ls [] n i h = absurd (omega arith)
 inputs-at M ls (l ∷ more) n zero h = (n .0 .low, n .0 .high)

@@ -1,6 +1,6 @@
 // The circuit call: a text becomes a net, the net's gates a system in the lent table, and one output is judged by it.
 mod output;
-mod pattern;
+pub mod pattern;
 
 use crate::output::output;
 use crate::pattern::write_pattern;

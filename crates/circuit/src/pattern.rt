@@ -1,4 +1,4 @@
-// The pattern that makes an output 1.
+// For this crate and the one above: the pattern that makes an output 1.
 use numbers::seek::one_of;
 use table::Row;
 ghost use mathlib.Core.Path.{_≡_};
