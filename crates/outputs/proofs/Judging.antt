@@ -41,7 +41,7 @@ use Rattle.gates.specs.Inner.{BuildAsked}
 use Rattle.circuit.specs.declared.Judged.{Judged}
 use Rattle.circuit.specs.Inner.{NetAsked}
 use Rattle.circuit.proofs.Verdicts.{inputs-at}
-use Rattle.outputs.specs.Inner.{Built, BuiltIf, Builds, output-from, ending-answer, ending-pattern, FromAsked, Ended, OutputOf, JudgedAs}
+use Rattle.outputs.specs.Inner.{Built, BuiltIf, Builds, output-from, ending-answer, ending-pattern, FromAsked, Stays, Ended, OutputOf, JudgedAs}
 
 from-nothing : (s : Slices) → rows-of s 0 ≡ none
 unfolding rows-of
@@ -186,4 +186,25 @@ module _ (s : Slices) (h : Sizes) (x : NetSlices) (c F o I : ℕ) (a : OutputOf 
     pattern = same-pattern net s p (within (room s) (output-rows net o)) ∙ ap (λ (y : Ending). ending-pattern y (h .vars) (net .inputs) p) ending-is
         ∙ ap (λ (n : ℕ). ending-pattern (within (room s) (output-from (h .vars) (getD (x .outs) o 0) F (rows-of s c))) (h .vars) (take n (x .ins)) p) (sym (q ∙ a .long)) ∙ e .pattern;
     stays = e .stays;
+  }
+
+-- the system stays from one output to the next
+module _ (s : Slices) (h : Sizes) (x : NetSlices) (c F : ℕ) (a : Built s h x c F) where
+  pub inputs-few : h .inputs ≤ 1024
+  inputs-few = let w = limits-hold s h x (a .read) in omega (arith, w .vars, w .sum)
+
+  pub next-output : {o I : ℕ} → o < h .outputs → I ≡ h .inputs → OutputOf s h x c F o I
+  next-output g e = record { built = a; there = g; long = e }
+
+  pub built-stays : (s′ : Slices) → Stays c s s′ → Built s′ h x c F
+  built-stays s′ t = record {
+    read = record {
+      lent = let l = a .read .lent in
+          record { used = omega arith; small = omega (arith, l .small, t .vars); thens = t .thens ∙ l .thens ∙ sym (t .vars); elses = t .elses ∙ l .elses ∙ sym (t .vars) };
+      slices = a .read .slices;
+      small = a .read .small;
+      net = a .read .net;
+    };
+    fits = omega (arith, a .fits, t .vars);
+    system = a .system ∙ ap (answer F) (sym (t .kept));
   }

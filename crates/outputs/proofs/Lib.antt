@@ -1,2 +1,3 @@
 pub mod Endings
 pub mod Judging
+pub mod Printed

@@ -1,0 +1,147 @@
+// The program: reads an AIGER text from standard input and prints a verdict for every output, in a table of 4,096 rows. The system is built once.
+mod printing;
+
+use crate::printing::print_refused;
+use crate::printing::print_verdict;
+use aiger::for_circuit::NetRead;
+use aiger::for_circuit::Sizes;
+use aiger::for_circuit::number_of;
+use aiger::for_circuit::read_net;
+use circuit::Judged;
+use libc::STDIN_FILENO;
+use outputs::judge;
+use outputs::system;
+use table::Row;
+use table::make::Made;
+ghost use mathlib.Core.Path.{_≡_};
+ghost use lib.ListN.{length};
+ghost use Rattle.steps.specs.Table.{slices};
+ghost use Rattle.aiger.specs.Answers as net;
+ghost use Rattle.outputs.specs.Inner.{Built};
+ghost use Rattle.mullagrane.specs.Inner.{Read};
+
+// No output has room: so says the system's building.
+fn print_without_room(outputs: usize) {
+    let mut o = 0;
+    while o < outputs {
+        if !print_verdict(Judged::RoomOut, o, b"") {
+            return;
+        }
+        o += 1;
+    }
+}
+
+// Each output from the system's rows, which stay. A standard output that is closed ends it.
+fn print_all(
+    h: Sizes,
+    ins: &[u16],
+    outs: &[u16],
+    lefts: &[u16],
+    rights0: &[u16],
+    rights1: &[u16],
+    vs: &mut [u16],
+    ts: &mut [u16],
+    es: &mut [u16],
+    work: &mut [u64],
+    count: usize,
+    f: Row,
+    pattern: &mut [u8],
+)
+    requires { ⌜ (Built (slices (now vs) (now ts) (now es)) h (net.slices (now ins) (now outs) (now lefts) (now rights0) (now rights1)) count (f .0)) × (length (now pattern) ≡ h .inputs) ⌝ }
+{
+    let outputs = h.outputs as usize;
+    let mut o = 0;
+    while o < outputs {
+        let r = judge(
+            h,
+            ins,
+            outs,
+            lefts,
+            rights0,
+            rights1,
+            vs,
+            ts,
+            es,
+            work,
+            count,
+            f,
+            o,
+            pattern,
+        );
+        if !print_verdict(r, o, pattern) {
+            return;
+        }
+        o += 1;
+    }
+}
+
+// The verdicts of an accepted net.
+fn judge_net(h: Sizes, ins: &[u16], outs: &[u16], lefts: &[u16], rights0: &[u16], rights1: &[u16])
+    requires { ⌜ Read h (net.slices (now ins) (now outs) (now lefts) (now rights0) (now rights1)) ⌝ }
+{
+    let mut vs = [0u16; 4096];
+    let mut ts = [0u16; 4096];
+    let mut es = [0u16; 4096];
+    let mut work = [0u64; 25600];
+    let mut pattern = [0u8; 1024];
+    let inputs = h.inputs as usize;
+    let made = system(
+        h,
+        ins,
+        outs,
+        lefts,
+        rights0,
+        rights1,
+        &mut vs,
+        &mut ts,
+        &mut es,
+        &mut work,
+    );
+    match made {
+        Made::At(f, count) => print_all(
+            h,
+            ins,
+            outs,
+            lefts,
+            rights0,
+            rights1,
+            &mut vs,
+            &mut ts,
+            &mut es,
+            &mut work,
+            count,
+            f,
+            &mut pattern[..inputs],
+        ),
+        Made::Full => print_without_room(h.outputs as usize),
+    }
+}
+
+fn judge_text(text: &[u8]) {
+    let mut ins = [0u16; 1024];
+    let mut outs = [0u16; 1024];
+    let mut lefts = [0u16; 1024];
+    let mut rights0 = [0u16; 1024];
+    let mut rights1 = [0u16; 1024];
+    let r = read_net(
+        text,
+        &mut ins,
+        &mut outs,
+        &mut lefts,
+        &mut rights0,
+        &mut rights1,
+    );
+    match r {
+        NetRead::Whole(h, _) => judge_net(h, &ins, &outs, &lefts, &rights0, &rights1),
+        NetRead::Unread(why) => {
+            print_refused(number_of(why));
+        }
+    }
+}
+
+// One byte more than a text may have is enough to refuse it.
+fn main() {
+    let mut text = [0u8; 32769];
+    let length = io::read_full(STDIN_FILENO, &mut text);
+    judge_text(&text[..length]);
+}
