@@ -80,10 +80,10 @@ fn judge_from(
     ensures { λ r. ⌜ Ended (output-from n (l .0) (system .0)) n (take (length (now (pattern .entry))) (now (ins .entry))) r count (slices (now (vs .entry)) (now (ts .entry)) (now (es .entry))) (slices (now (vs .exit)) (now (ts .exit)) (now (es .exit))) (now (pattern .entry)) (now (pattern .exit)) ⌝ }
 {
     let Made::At(p, c1) = literal(vs, ts, es, work, n, count, l) else {
-        return Judged::RoomOut;
+        return Judged::RoomOut; // none for the literal
     };
     let Made::At(k, c2) = reduce(vs, ts, es, work, n, c1, p, system) else {
-        return Judged::RoomOut;
+        return Judged::RoomOut; // none for its normal form
     };
     if k.0 == 0 {
         return Judged::Never(c2);
