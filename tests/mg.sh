@@ -32,24 +32,6 @@ variable_of() {
 }
 mixed_up() { ! variable_of mg_row && ! variable_of uint16_t; }
 
-# The library is compiled for x86-64. Elsewhere the console is compiled and linked by the kit's own tools, and run under its emulator, as rt does.
-flags=(-std=c99 -O2 -Wall -Wextra -pedantic -Werror -Iinclude)
-library=target/staticlib/libmg.a
-by_gcc() { gcc "${flags[@]}" tests/console.c "$library" -o "$room/console"; }
-by_kit() {
-    local machine kit tools
-    machine=$(uname -m)
-    kit=${RATTLE_HOME:-$(dirname "$(dirname "$(readlink -f "$(command -v rt)")")")}
-    tools=$kit/on/$machine/toolchain
-    "$tools/bin/clang" --target=x86_64-linux-gnu "${flags[@]}" -fPIC -isystem "$(gcc -print-file-name=include)" -isystem /usr/include \
-        -isystem "/usr/include/$(gcc -dumpmachine)" -c tests/console.c -o "$room/console.o" || return
-    "$kit/on/$machine/bin/rattle-link" --target x86_64-unknown-linux-gnu --toolchain "$tools" -o "$room/program" "$room/console.o" "$library" || return
-    printf '#!/bin/sh\nexec %s "%s/lib/ld-linux-x86-64.so.2" --library-path "%s/lib" "%s/program"\n' \
-        "$(ls "$tools/bin/qemu-x86_64" 2>/dev/null)" "$tools" "$tools" "$room" >"$room/console"
-    chmod +x "$room/console"
-}
-build_console() { if [ "$(uname -m)" = x86_64 ]; then by_gcc; else by_kit; fi; }
-
 # against KIND..: compares the console with the second program, and adds the count
 against() {
     local said
@@ -67,7 +49,14 @@ what "the header is C++" includes g++ -std=c++11 -x c++
 what "the header takes a variable" variable_of mg_var
 what "the header takes no number for a variable" mixed_up
 what "the library" rt staticlib mg
-what "the console" build_console
+what "the console" tests/build-c tests/console.c "$room/console"
+
+# the header asks for 1 MB of stack
+deep() {
+    (ulimit -s 1024 && python3 tests/deep.py | "$room/console") >"$room/deep" || return
+    [ "$(grep -c '^call .* -> 0 ' "$room/deep")" -eq 2 ]
+}
+what "1 MB of stack is enough for the deepest calls" deep
 
 # caught KIND TRUE FALSE: a console that gives one answer as another is found out
 caught() {
