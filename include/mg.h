@@ -18,6 +18,8 @@
  * where that length is 0. Lent slices and out-parameters do not overlap. Where
  * a call is refused, out-parameters keep what they held.
  *
+ * Calls nest as deep as the ring has variables; 1 MB of stack is enough.
+ *
  * The refusals:
  *    1  N, lengths or count out of range; assignment length not N
  *    2  table not sound

@@ -1,5 +1,6 @@
 #!/usr/bin/env bash
 # The examples: every examples/NAME.out is held to the plain evaluation of all patterns, to the second program and to the circuit program.
+# Then the programs examples/tie.c and examples/tie.rs, which check one tie through the library.
 set -u
 cd "$(dirname "$0")/.." || exit 2
 passed=0
@@ -55,6 +56,40 @@ for text in examples/*.aag; do
         what "$out is not what $program prints" prints "$out" "$text" circuit
     fi
 done
+
+# tied PROGRAM NAME: the exit status is the verdict that examples/NAME.out has for output 0, and what is printed by input is its pattern
+tied() {
+    local said verdict pattern=
+    said=$("$1" "examples/$2.aag")
+    verdict=$?
+    if [ "$verdict" -eq 1 ]; then pattern=$(sed -n 4p "examples/$2.out"); fi
+    [ "$verdict" = "$(sed -n 1p "examples/$2.out")" ] && [ "$(sed -n 's/^input [0-9]*: //p' <<<"$said" | tr -d '\n')" = "$pattern" ]
+}
+refuses() {
+    local said
+    said=$("$1" /dev/null)
+    [ $? -eq 3 ] && [ "$said" = "refused: 10" ]
+}
+
+# ties PROGRAM SOURCE COMMAND..: builds an example program and tries it on ties with each verdict, and on an empty text
+ties() {
+    local program=$1 source=$2 name
+    shift 2
+    what "$source is not built" "$@"
+    for name in counter counter-dropped adder-apart; do
+        what "$source has another verdict for $name.aag" tied "$program" "$name"
+    done
+    what "$source does not refuse an empty text with 10" refuses "$program"
+}
+
+library() { rt staticlib mg >"$made/said" 2>&1 || { tail -n 20 "$made/said" && false; }; }
+what "the library is not built" library
+ties "$made/tie-c" examples/tie.c tests/build-c examples/tie.c "$made/tie-c"
+if [ "$(uname -m)" = x86_64 ]; then
+    ties "$made/tie-rs" examples/tie.rs rustc --edition 2021 -O -D warnings examples/tie.rs -L target/staticlib -l static=mg -o "$made/tie-rs"
+else
+    echo "examples: the library is compiled for x86-64, and rustc here is not; nothing is counted for examples/tie.rs"
+fi
 
 python3 bench/blocks.py examples "$made"
 for text in "$made"/*.aag; do

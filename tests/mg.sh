@@ -8,8 +8,6 @@ trap 'rm -rf "$room"' EXIT
 passed=0
 failed=0
 
-missing="circuit" # the calls that the library does not have yet: cases end before them
-
 # what NAME COMMAND..: counts one test
 what() {
     local name=$1
@@ -34,34 +32,11 @@ variable_of() {
 }
 mixed_up() { ! variable_of mg_row && ! variable_of uint16_t; }
 
-# The library is compiled for x86-64. Elsewhere the console is compiled and linked by the kit's own tools, and run under its emulator, as rt does.
-flags=(-std=c99 -O2 -Wall -Wextra -pedantic -Werror -Iinclude)
-library=target/staticlib/libmg.a
-by_gcc() { gcc "${flags[@]}" tests/console.c "$room/missing.c" "$library" -o "$room/console"; }
-by_kit() {
-    local machine kit tools file
-    machine=$(uname -m)
-    kit=${RATTLE_HOME:-$(dirname "$(dirname "$(readlink -f "$(command -v rt)")")")}
-    tools=$kit/on/$machine/toolchain
-    for file in tests/console.c "$room/missing.c"; do
-        "$tools/bin/clang" --target=x86_64-linux-gnu "${flags[@]}" -fPIC -isystem "$(gcc -print-file-name=include)" -isystem /usr/include \
-            -isystem "/usr/include/$(gcc -dumpmachine)" -c "$file" -o "$room/$(basename "$file" .c).o" || return
-    done
-    "$kit/on/$machine/bin/rattle-link" --target x86_64-unknown-linux-gnu --toolchain "$tools" -o "$room/program" "$room/console.o" "$room/missing.o" "$library" || return
-    printf '#!/bin/sh\nexec %s "%s/lib/ld-linux-x86-64.so.2" --library-path "%s/lib" "%s/program"\n' \
-        "$(ls "$tools/bin/qemu-x86_64" 2>/dev/null)" "$tools" "$tools" "$room" >"$room/console"
-    chmod +x "$room/console"
-}
-build_console() { if [ "$(uname -m)" = x86_64 ]; then by_gcc; else by_kit; fi; }
-
-# compared CONSOLE KIND..: compares a console with the second program
-compared() { tests/compare "$@" ${missing:+--without "${missing// /,}"}; }
-
-# against KIND..: adds the count of one comparison
+# against KIND..: compares the console with the second program, and adds the count
 against() {
     local said
     echo "mg: $*"
-    compared "$room/console" "$@" >"$room/said" 2>&1 || echo "mg: the comparison failed"
+    tests/compare "$room/console" "$@" >"$room/said" 2>&1 || echo "mg: the comparison failed"
     cat "$room/said"
     said=$(grep -E '^[1-9][0-9]* passed, [0-9]+ failed$' "$room/said" || echo "0 passed, 1 failed")
     passed=$((passed + ${said%% passed*}))
@@ -74,15 +49,23 @@ what "the header is C++" includes g++ -std=c++11 -x c++
 what "the header takes a variable" variable_of mg_var
 what "the header takes no number for a variable" mixed_up
 what "the library" rt staticlib mg
-echo '#include <stdlib.h>' >"$room/missing.c"
-for call in ${missing:-}; do printf 'void mg_%s(void);\nvoid mg_%s(void) { abort(); }\n' "$call" "$call"; done >>"$room/missing.c"
-what "the console" build_console
+what "the console" tests/build-c tests/console.c "$room/console"
 
-# a console that gives refusal 7 as 0 is found out
-printf '#!/bin/sh\n"%s" | sed "s/ -> 7 / -> 0 /"\n' "$room/console" >"$room/liar"
-chmod +x "$room/liar"
-caught() { compared "$room/liar" scripts 1 500 | grep '^console: call .* -> 0 '; }
-what "a refusal 7 given as 0 is found" caught
+# the header asks for 1 MB of stack
+deep() {
+    (ulimit -s 1024 && python3 tests/deep.py | "$room/console") >"$room/deep" || return
+    [ "$(grep -c '^call .* -> 0 ' "$room/deep")" -eq 2 ]
+}
+what "1 MB of stack is enough for the deepest calls" deep
+
+# caught KIND TRUE FALSE: a console that gives one answer as another is found out
+caught() {
+    printf '#!/bin/sh\n"%s" | sed "s/%s/%s/"\n' "$room/console" "$2" "$3" >"$room/liar"
+    chmod +x "$room/liar"
+    tests/compare "$room/liar" "$1" 1 500 | grep -e "^console: call .*$3"
+}
+what "a refusal 7 given as 0 is found" caught scripts '-> 7 ' '-> 0 '
+what "a verdict 2 given as 0 is found" caught texts 'verdict=2' 'verdict=0'
 
 against paper
 fresh=$(($(date +%s) * 1000))

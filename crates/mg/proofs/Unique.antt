@@ -1,7 +1,7 @@
 -- "Uniqueness is proved: any two outcomes a contract allows coincide", as C sees them: the number returned, the out-parameters and every lent slice.
 -- Assumes nothing.
 use Prim.Native.Nat.{ℕ}
-use mathlib.Core.Path.{_≡_, sym, ap, _∙_}
+use mathlib.Core.Path.{_≡_, refl, sym, ap, _∙_}
 use mathlib.Core.List.{List}
 use Rattle.steps.specs.Table.{Slices}
 use Rattle.table.specs.declared.Answer.{Answer}
@@ -9,7 +9,11 @@ use Rattle.table.specs.Calls.{Left, left}
 use Rattle.numbers.specs.Calls.{variable-call, value-call, one-call, OneLeft, one-left, OneMeans}
 use Rattle.sums.specs.Calls.{Does}
 use Rattle.aiger.specs.Answers.{textCall}
-use Rattle.mg.specs.Seen.{Seen, seen, Shows, show-made, show-value, show-one, show-counts}
+use Rattle.verdicts.specs.Calls.{Left as Circuit-left, left as circuit-left, Answer as Verdict, verdict-0, verdict-1, verdict-2, refusal, circuit-call}
+use Rattle.circuit.specs.Answers.{answer-of, Answered}
+use Rattle.circuit.specs.declared.Judged.{Judged}
+use Rattle.circuit.specs.declared.Judged.the-variants.{Never, Can, RoomOut, Refused}
+use Rattle.mg.specs.Seen.{Seen, seen, Shows, show-made, show-value, show-one, show-verdict, show-counts}
 
 -- answers that coincide are shown alike
 module _ {R A : Type 0} {show : R → A → Seen A} {P P′ : R → Type 0} {k k′ : ℕ} {held outs outs′ : A} (a : Shows show P k held outs) (b : Shows show P′ k′ held outs′) where
@@ -48,3 +52,27 @@ module _ {k k′ : ℕ} (N c : ℕ) (s : Slices) (f : ℕ) (bytes : List ℕ) wh
   one-unique t t′ a b =
       let e : one-left (a .answer) t ≡ one-left (b .answer) t′ = sym (a .promised .0) ∙ b .promised .0 in
       (ap (λ (x : Seen (Unit {0})). x .returned) (shown-alike a b (ap (λ (x : OneLeft). x .answer) e)), ap (λ (x : OneLeft). x .bytes) e)
+
+-- the verdict, the count of rows where there is one, the three slices and the pattern
+abbrev judged-as : Verdict → Judged
+judged-as (verdict-0 n) = Never n
+judged-as (verdict-1 n) = Can n
+judged-as verdict-2 = RoomOut
+judged-as (refusal why) = Refused why
+
+judged-back : (r : Judged) → judged-as (answer-of r) ≡ r
+judged-back (Never n) = refl
+judged-back (Can n) = refl
+judged-back RoomOut = refl
+judged-back (Refused why) = refl
+
+module _ {k k′ : ℕ} {held outs outs′ : ℕ × ℕ} where
+  pub circuit-unique : (text : List ℕ) (s t t′ : Slices) (o : ℕ) (p q q′ : List ℕ)
+      → Shows show-verdict (λ r. Answered (circuit-call text s o p) r t q) k held outs → Shows show-verdict (λ r. Answered (circuit-call text s o p) r t′ q′) k′ held outs′
+      → (seen k outs ≡ seen k′ outs′) × (t ≡ t′) × (q ≡ q′)
+  circuit-unique text s t t′ o p q q′ a b =
+      let e : circuit-left (answer-of (a .answer)) t q ≡ circuit-left (answer-of (b .answer)) t′ q′ = sym (a .promised .is) ∙ b .promised .is in (
+        shown-alike a b (sym (judged-back (a .answer)) ∙ ap (λ (x : Circuit-left). judged-as (x .answer)) e ∙ judged-back (b .answer)),
+        ap (λ (x : Circuit-left). x .table) e,
+        ap (λ (x : Circuit-left). x .pattern) e,
+      )

@@ -24,11 +24,17 @@ use Rattle.numbers.specs.Calls.{variable-call, all-bits, value-call, bit, OneLe
 use Rattle.sums.specs.Calls.{pair-call, Does, Means, Answered}
 use Rattle.normal.specs.Calls.{system-checked, in-order, equation-call, Adds, normal-call, Reduced}
 use Rattle.aiger.specs.Net.{Got, got, refused, Net, circuit}
-use Rattle.aiger.specs.Answers.{answerOf, textCall}
+use Rattle.aiger.specs.Answers.{numberOfRefusal, answerOf, textCall}
+use Rattle.aiger.specs.declared.net.Refusal.{Refusal}
 use Rattle.aiger.specs.declared.net.Refusal.the-variants.{TooLong, Form, Limits, Literal, Order}
 use Rattle.aiger.specs.declared.Answer.{Answer as Text-answer}
 use Rattle.aiger.specs.declared.Answer.the-variants.{Counted, Refused as Text-refused}
-use Rattle.mg.specs.Seen.{Seen, seen, Shows, show-made, show-value, show-one, show-counts}
+use Rattle.verdicts.specs.Calls.{refusal, Left as Circuit-left, refuse as refuse-circuit, lengths-fine, end-with, judge, judge-read, circuit-call}
+use Rattle.verdicts.specs.Verdicts.{Verdict, never, can, room-out, verdict-of}
+use Rattle.circuit.specs.Answers.{answer-of, Answered as Circuit-answered}
+use Rattle.circuit.specs.declared.Judged.{Judged}
+use Rattle.circuit.specs.declared.Judged.the-variants.{Never, Can, RoomOut, Refused as Circuit-refused}
+use Rattle.mg.specs.Seen.{Seen, seen, Shows, show-made, show-value, show-one, show-verdict, show-counts}
 
 -- of outcomes D, of which some refuse with a number: d refuses with none that is 0
 pub record Numbered {D : Type 0} (refuses : D → ℕ → Type 0) (d : D) : Type 0 where
@@ -165,13 +171,16 @@ module _ (N c : ℕ) (s : Slices) (f : ℕ) (bytes : List ℕ) where
 
 -- the text call
 
+number-positive : (w : Refusal) → 0 < numberOfRefusal w
+number-positive TooLong = omega arith
+number-positive (Form w n) = omega arith
+number-positive Limits = omega arith
+number-positive (Literal n) = omega arith
+number-positive (Order n) = omega arith
+
 text-numbered : (g : Got Net) (why : ℕ) → answerOf g ≡ Text-refused why → 0 < why
 text-numbered (got net rest) why e = absurd (let y : _≡_ {A = ℕ} 0 1 = cc in omega arith)
-text-numbered (refused TooLong) why e = let q : 9 ≡ why = cc in omega arith
-text-numbered (refused (Form w n)) why e = let q : 10 ≡ why = cc in omega arith
-text-numbered (refused Limits) why e = let q : 11 ≡ why = cc in omega arith
-text-numbered (refused (Literal n)) why e = let q : 12 ≡ why = cc in omega arith
-text-numbered (refused (Order n)) why e = let q : 13 ≡ why = cc in omega arith
+text-numbered (refused w) why e = let q : numberOfRefusal w ≡ why = cc in omega (arith, q, number-positive w)
 
 pub text-zero : (text : List ℕ) {held outs : ℕ × ℕ} → Shows show-counts (λ r. r ≡ textCall text) 0 held outs → textCall text ≡ Counted (outs .0) (outs .1)
 text-zero text {held} {outs} a = go (a .answer) (a .promised) (a .is)
@@ -179,3 +188,49 @@ text-zero text {held} {outs} a = go (a .answer) (a .promised) (a .is)
     go : (r : Text-answer) → r ≡ textCall text → show-counts r held ≡ seen 0 outs → textCall text ≡ Counted (outs .0) (outs .1)
     go (Counted i o) p e = sym p ∙ ap (λ (x : Seen (ℕ × ℕ)). Counted (x .outs .0) (x .outs .1)) e
     go (Text-refused why) p e = absurd (omega (arith, text-numbered (circuit text) why (sym p), ap (λ (x : Seen (ℕ × ℕ)). x .returned) e))
+
+-- the circuit call
+
+abbrev judges-not : Circuit-left → ℕ → Type 0
+judges-not d why = d .answer ≡ refusal why
+
+numbered-unjudged : (s : Slices) (p : List ℕ) (k : ℕ) → 0 < k → Numbered judges-not (refuse-circuit k s p)
+numbered-unjudged s p k q = record { not-zero = λ why e. let r : k ≡ why = cc in omega arith }
+
+numbered-verdict : (v : Verdict) (s : Slices) (p : List ℕ) → Numbered judges-not (end-with v s p)
+numbered-verdict (never R) s p = record { not-zero = λ why e. absurd (let y : _≡_ {A = ℕ} 0 1 = cc in omega arith) }
+numbered-verdict (can R q) s p = record { not-zero = λ why e. absurd (let y : _≡_ {A = ℕ} 0 1 = cc in omega arith) }
+numbered-verdict room-out s p = record { not-zero = λ why e. absurd (let y : _≡_ {A = ℕ} 0 1 = cc in omega arith) }
+
+module _ (s : Slices) (o : ℕ) (p : List ℕ) where
+  read-numbered : (g : Got Net) → Numbered judges-not (judge-read g s o p)
+  read-numbered (got net rest) =
+      numbered-unless (ltb o (length (net .outputs))) (numbered-unjudged s p 14 (omega arith))
+      (numbered-unless (eqb (length p) (length (net .inputs))) (numbered-unjudged s p 15 (omega arith)) (numbered-verdict (verdict-of net (room s) o) s p))
+  read-numbered (refused w) = numbered-unjudged s p (numberOfRefusal w) (number-positive w)
+
+  circuit-numbered : (text : List ℕ) → Numbered judges-not (circuit-call text s o p)
+  unfolding circuit-call
+  circuit-numbered text = numbered-unless (lengths-fine s) (numbered-unjudged s p 1 (omega arith)) (read-numbered (circuit text))
+
+-- the verdict that the out-parameters are: 0 and 1 with the count of rows made, or 2, where the second keeps what it held
+pub data Verdict-seen (promise : Judged → Type 0) (held outs : ℕ × ℕ) : Type 0 where
+  seen-0 : outs .0 ≡ 0 → promise (Never (outs .1)) → Verdict-seen promise held outs
+  seen-1 : outs .0 ≡ 1 → promise (Can (outs .1)) → Verdict-seen promise held outs
+  seen-2 : outs .0 ≡ 2 → outs .1 ≡ held .1 → promise RoomOut → Verdict-seen promise held outs
+
+zero-verdict : (promise : Judged → Type 0) {d : Circuit-left} → Numbered judges-not d → ((r : Judged) → promise r → d .answer ≡ answer-of r) → {held outs : ℕ × ℕ}
+    → Shows show-verdict promise 0 held outs → Verdict-seen promise held outs
+zero-verdict promise n is {held} {outs} a = go (a .answer) (a .promised) (a .is)
+  where
+    go : (r : Judged) → promise r → show-verdict r held ≡ seen 0 outs → Verdict-seen promise held outs
+    go (Never m) p e = seen-0 (ap (λ (x : Seen (ℕ × ℕ)). x .outs .0) (sym e)) (subst (λ (i : ℕ). promise (Never i)) (ap (λ (x : Seen (ℕ × ℕ)). x .outs .1) e) p)
+    go (Can m) p e = seen-1 (ap (λ (x : Seen (ℕ × ℕ)). x .outs .0) (sym e)) (subst (λ (i : ℕ). promise (Can i)) (ap (λ (x : Seen (ℕ × ℕ)). x .outs .1) e) p)
+    go RoomOut p e = seen-2 (ap (λ (x : Seen (ℕ × ℕ)). x .outs .0) (sym e)) (ap (λ (x : Seen (ℕ × ℕ)). x .outs .1) (sym e)) p
+    go (Circuit-refused why) p e = absurd (omega (arith, n .not-zero why (is (Circuit-refused why) p), ap (λ (x : Seen (ℕ × ℕ)). x .returned) e))
+
+pub circuit-zero : (text : List ℕ) (s s′ : Slices) (o : ℕ) (p p′ : List ℕ) {held outs : ℕ × ℕ}
+    → Shows show-verdict (λ r. Circuit-answered (circuit-call text s o p) r s′ p′) 0 held outs
+    → Verdict-seen (λ r. Circuit-answered (circuit-call text s o p) r s′ p′) held outs
+circuit-zero text s s′ o p p′ =
+    zero-verdict (λ r. Circuit-answered (circuit-call text s o p) r s′ p′) (circuit-numbered s o p text) (λ r q. ap (λ (d : Circuit-left). d .answer) (q .is))

@@ -11,6 +11,8 @@ use Rattle.numbers.specs.declared.Sought.{Sought}
 use Rattle.numbers.specs.declared.Sought.the-variants.{One, NoOne}
 use Rattle.aiger.specs.declared.Answer.{Answer as Text-answer}
 use Rattle.aiger.specs.declared.Answer.the-variants.{Counted, Refused as Text-refused}
+use Rattle.circuit.specs.declared.Judged.{Judged}
+use Rattle.circuit.specs.declared.Judged.the-variants.{Never, Can, RoomOut, Refused as Circuit-refused}
 
 pub record Seen (A : Type 0) : Type 0 where
   pub returned : ℕ
@@ -35,6 +37,13 @@ show-value (NoValue why) held = seen why held
 abbrev pub show-one : Sought → Unit {0} → Seen (Unit {0})
 show-one One held = seen 0 tt
 show-one (NoOne why) held = seen why tt
+
+-- the circuit call; out: the verdict, and with verdicts 0 and 1 the count of rows made; "verdict 2 (room ran out) carries no count"
+abbrev pub show-verdict : Judged → ℕ × ℕ → Seen (ℕ × ℕ)
+show-verdict (Never n) held = seen 0 (0, n)
+show-verdict (Can n) held = seen 0 (1, n)
+show-verdict RoomOut held = seen 0 (2, held .1)
+show-verdict (Circuit-refused why) held = seen why held
 
 -- the text call; out: I and O
 abbrev pub show-counts : Text-answer → ℕ × ℕ → Seen (ℕ × ℕ)

@@ -13,7 +13,9 @@ ghost use Rattle.sums.specs.Calls.{sum-call, Does, Answered};
 ghost use Rattle.products.specs.Calls.{product-call};
 ghost use Rattle.normal.specs.Calls.{equation-call, Adds, normal-call, Reduced};
 ghost use Rattle.aiger.specs.Answers.{textCall};
-ghost use Rattle.mg.specs.Seen.{Shows, show-made, show-value, show-one, show-counts};
+ghost use Rattle.verdicts.specs.Calls.{circuit-call};
+ghost use Rattle.circuit.specs.Answers as judged;
+ghost use Rattle.mg.specs.Seen.{Shows, show-made, show-value, show-one, show-verdict, show-counts};
 
 // The variable x_v.
 #[no_mangle]
@@ -191,6 +193,29 @@ pub extern "C" fn mg_normal_form(
 {
     let r = normal::normal_form(n, vs, ts, es, count, work, Row(p), Row(system));
     show::made(r, row, used)
+}
+
+// The verdict for one output of a circuit's text.
+#[no_mangle]
+pub extern "C" fn mg_circuit(
+    text: &[u8],
+    vs: &mut [u16],
+    ts: &mut [u16],
+    es: &mut [u16],
+    work: &mut [u64],
+    o: usize,
+    pattern: &mut [u8],
+    verdict: &mut u32,
+    rows: &mut usize,
+) -> u32
+    ensures { λ k. ⌜ Shows show-verdict
+        (λ r. judged.Answered (circuit-call (now (text .entry)) (slices (now (vs .entry)) (now (ts .entry)) (now (es .entry))) o (now (pattern .entry))) r
+        (slices (now (vs .exit)) (now (ts .exit)) (now (es .exit))) (now (pattern .exit)))
+        k (now (verdict .entry), now (rows .entry)) (now (verdict .exit), now (rows .exit)) ⌝ }
+    ensures { λ _. ⌜ now (work .exit) ≡ replicate (length (now (work .entry))) 0 ⌝ }
+{
+    let r = circuit::circuit(text, vs, ts, es, work, o, pattern);
+    show::verdict(r, verdict, rows)
 }
 
 // I and O of a circuit's text.

@@ -1,9 +1,10 @@
 // What C sees of an answer: 0 with the out-parameters written, or the refusal's number with the out-parameters as they were.
+use circuit::Judged;
 use numbers::Sought;
 use numbers::Valued;
 use table::Answer;
 ghost use mathlib.Core.Path.{_≡_};
-ghost use Rattle.mg.specs.Seen.{seen, show-made, show-value, show-one, show-counts};
+ghost use Rattle.mg.specs.Seen.{seen, show-made, show-value, show-one, show-verdict, show-counts};
 
 pub fn made(r: Answer, row: &mut u16, used: &mut usize) -> u32
     ensures { λ k. ⌜ show-made r (now (row .entry), now (used .entry)) ≡ seen k (now (row .exit), now (used .exit)) ⌝ }
@@ -36,6 +37,28 @@ pub fn one(r: Sought) -> u32
     match r {
         Sought::One => 0,
         Sought::NoOne(why) => why as u32,
+    }
+}
+
+pub fn verdict(r: Judged, out: &mut u32, rows: &mut usize) -> u32
+    ensures { λ k. ⌜ show-verdict r (now (out .entry), now (rows .entry)) ≡ seen k (now (out .exit), now (rows .exit)) ⌝ }
+{
+    match r {
+        Judged::Never(n) => {
+            *out = 0;
+            *rows = n;
+            0
+        }
+        Judged::Can(n) => {
+            *out = 1;
+            *rows = n;
+            0
+        }
+        Judged::RoomOut => {
+            *out = 2;
+            0
+        }
+        Judged::Refused(why) => why as u32,
     }
 }
 
