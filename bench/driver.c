@@ -5,7 +5,7 @@
 #include "bench.h"
 #include "mg.h"
 
-enum { ROWS = 4096, WORK = 32768 };
+enum { ROWS = 4096, WORK = 25600 };
 
 static uint16_t var[ROWS], then[ROWS], els[ROWS];
 static uint64_t work[WORK];
