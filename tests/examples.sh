@@ -3,22 +3,9 @@
 # Then the programs examples/tie.c and examples/tie.rs, which check one tie through the library.
 set -u
 cd "$(dirname "$0")/.." || exit 2
-passed=0
-failed=0
+source tests/counting
 made=$(mktemp -d)
 trap 'rm -rf "$made"' EXIT
-
-# what NAME COMMAND..: counts one test
-what() {
-    local name=$1
-    shift
-    if "$@"; then
-        passed=$((passed + 1))
-    else
-        failed=$((failed + 1))
-        echo "examples: $name"
-    fi
-}
 
 # prints OUT TEXT COMMAND..: the command, given the text, must print what stands in OUT
 prints() {

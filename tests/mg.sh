@@ -3,23 +3,9 @@
 # Scripts and texts are compared in portions of 5,000: two by fixed seeds, two by fresh ones; with --long 38 by fresh ones, 200,000 cases of each kind.
 set -u
 cd "$(dirname "$0")/.." || exit 2
+source tests/counting
 room=$(mktemp -d)
 trap 'rm -rf "$room"' EXIT
-passed=0
-failed=0
-
-# what NAME COMMAND..: counts one test
-what() {
-    local name=$1
-    shift
-    if "$@" >"$room/said" 2>&1; then
-        passed=$((passed + 1))
-    else
-        failed=$((failed + 1))
-        echo "mg: $name"
-        tail -n 20 "$room/said"
-    fi
-}
 
 # compiles LANGUAGE.. < CODE: whether a program that includes the header is compiled without a warning
 compiles() { "$@" -Wall -Wextra -pedantic -Werror -Iinclude -fsyntax-only -; }

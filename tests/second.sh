@@ -3,10 +3,9 @@
 # program's, written from the paper alone; this shows that what is stored is still what it says.
 set -u
 cd "$(dirname "$0")/second" || exit 2
+source ../counting
 log=$(mktemp)
 trap 'rm -f "$log" "$log.corpus" "$log.tail"' EXIT
-passed=0
-failed=0
 
 cargo test --release --offline --quiet >"$log" 2>&1
 status=$?
@@ -20,18 +19,6 @@ fi
 cargo build --release --offline --quiet || failed=$((failed + 1))
 second=target/release/second
 texts=../../crates/texts
-
-# what NAME COMMAND..: counts one test
-what() {
-    local name=$1
-    shift
-    if "$@"; then
-        passed=$((passed + 1))
-    else
-        failed=$((failed + 1))
-        echo "second: $name"
-    fi
-}
 
 "$second" corpus 1 >"$log.corpus"
 tail -c "$(wc -c <"$log.corpus")" "$texts/stdin" >"$log.tail"
