@@ -51,7 +51,7 @@ ABOUT = """\
 Every checker gets the same blocks (`bench/blocks.py`): two versions of a circuit tied by XORs, under one numbering. Output 0 is the OR of all
 differences; the decoders have an output for each difference, too. All answers agreed, patterns included where a checker gives the least one; the
 script stops where they do not. Times are the best of up to {runs} runs, one at a time, in microseconds; in brackets the ratio to Mullagrane's time.
-`over`: more than 60 s. Where the table of 4,096 rows is full (verdict 2), Mullagrane's time is the time to say so, and no ratio is given.
+`over`: more than 10 s of processor time. Where the table of 4,096 rows is full (verdict 2), Mullagrane's time is the time to say so, and no ratio is given.
 
 - **Mullagrane**: {own}
 - **BRiAl** (PolyBoRi): the same equations in the same order, and its own `ll_red_nf_noredsb`. Tables grow without limit.
@@ -197,7 +197,7 @@ def legend():
         x += 29 + 7 * len(name) + 18
     note = (
         "Times are of the whole command unless said otherwise. An open circle: the table is full (verdict 2). "
-        "Lines end where a checker took over 60 s or has too many inputs."
+        "Lines end where a checker took over 10 s or has too many inputs."
     )
     parts.append(label(LEFT - 40, 70, note, size=11, colour="#555"))
     return parts
