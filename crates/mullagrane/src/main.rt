@@ -1,35 +1,17 @@
 // The program: reads an AIGER text from standard input and prints a verdict for every output, in a table of 4,096 rows. The system is built once.
-mod printing;
-
-use crate::printing::print_refused;
-use crate::printing::print_verdict;
 use aiger::for_circuit::NetRead;
 use aiger::for_circuit::Sizes;
 use aiger::for_circuit::number_of;
 use aiger::for_circuit::read_net;
-use circuit::Judged;
 use libc::STDIN_FILENO;
-use outputs::judge;
+use libc::STDOUT_FILENO;
 use outputs::system;
-use table::Row;
+use printing::print;
 use table::make::Made;
-ghost use mathlib.Core.Path.{_≡_};
 ghost use lib.ListN.{length};
 ghost use Rattle.steps.specs.Table.{slices};
 ghost use Rattle.aiger.specs.Answers as net;
-ghost use Rattle.outputs.specs.Inner.{Built};
-ghost use Rattle.mullagrane.specs.Inner.{Read};
-
-// No output has room: so says the system's building.
-fn print_without_room(outputs: usize) {
-    let mut o = 0;
-    while o < outputs {
-        if !print_verdict(Judged::RoomOut, o, b"") {
-            return;
-        }
-        o += 1;
-    }
-}
+ghost use Rattle.mullagrane.specs.Inner.{Read, Ready};
 
 // Each output from the system's rows, which stay. A standard output that is closed ends it.
 fn print_all(
@@ -43,16 +25,18 @@ fn print_all(
     ts: &mut [u16],
     es: &mut [u16],
     work: &mut [u64],
-    count: usize,
-    f: Row,
+    made: Made,
     pattern: &mut [u8],
 )
-    requires { ⌜ (Built (slices (now vs) (now ts) (now es)) h (net.slices (now ins) (now outs) (now lefts) (now rights0) (now rights1)) count (f .0)) × (length (now pattern) ≡ h .inputs) ⌝ }
+    requires { ⌜ Ready made (slices (now vs) (now ts) (now es)) h
+        (net.slices (now ins) (now outs) (now lefts) (now rights0) (now rights1))
+        (length (now pattern)) ⌝ }
 {
+    let mut line = [0u8; 1040];
     let outputs = h.outputs as usize;
     let mut o = 0;
     while o < outputs {
-        let r = judge(
+        let k = print(
             h,
             ins,
             outs,
@@ -63,12 +47,12 @@ fn print_all(
             ts,
             es,
             work,
-            count,
-            f,
+            made,
             o,
             pattern,
+            &mut line,
         );
-        if !print_verdict(r, o, pattern) {
+        if !io::write_all(STDOUT_FILENO, &line[..k]) {
             return;
         }
         o += 1;
@@ -97,24 +81,30 @@ fn judge_net(h: Sizes, ins: &[u16], outs: &[u16], lefts: &[u16], rights0: &[u16]
         &mut es,
         &mut work,
     );
-    match made {
-        Made::At(f, count) => print_all(
-            h,
-            ins,
-            outs,
-            lefts,
-            rights0,
-            rights1,
-            &mut vs,
-            &mut ts,
-            &mut es,
-            &mut work,
-            count,
-            f,
-            &mut pattern[..inputs],
-        ),
-        Made::Full => print_without_room(h.outputs as usize),
+    print_all(
+        h,
+        ins,
+        outs,
+        lefts,
+        rights0,
+        rights1,
+        &mut vs,
+        &mut ts,
+        &mut es,
+        &mut work,
+        made,
+        &mut pattern[..inputs],
+    );
+}
+
+fn print_refused(why: u16) -> bool {
+    if !io::write_all(STDOUT_FILENO, b"refused ") {
+        return false;
     }
+    if !io::print_decimal(STDOUT_FILENO, why as u64) {
+        return false;
+    }
+    io::write_all(STDOUT_FILENO, b"\n")
 }
 
 fn judge_text(text: &[u8]) {

@@ -1,13 +1,12 @@
-use mathlib.Core.Path.{_≡_, refl, sym, _∙_}
+use mathlib.Core.Path.{refl, sym}
 use borrow.Author.Needs.{needs}
-use Rattle.mullagrane.proofs.Parts.{counted, inputs-fit, table-fresh, read-asks, built-at}
+use Rattle.mullagrane.proofs.Parts.{counted, inputs-fit, table-fresh, read-asks, made-ready}
 use borrow.Author.Needs.{needs}
 use Rattle.mullagrane.proofs.judge_net.Statement.{statement}
 use Rattle.mullagrane.proofs.judge_net.Tie as tie
 use Rattle.mullagrane.proofs.judge_net.Reads as reads
 use Rattle.mullagrane.proofs.judge_net.Lts as lts
 use Rattle.mullagrane.proofs.print_all.Reads as print-all-reads
-use Rattle.mullagrane.proofs.print_without_room.Reads as print-without-room-reads
 use Rattle.outputs.proofs.system.Reads as system-reads
 
 cast-inputs : tie.Need-cast-inputs
@@ -28,9 +27,6 @@ slice-aggregate-system-4 c = search needs
 system-requires : tie.Need-system-requires
 system-requires c κs = let c10 = c .before .before .before .before .before .before .before .before .before .before in read-asks (c10 .pre) table-fresh
 
-enum-known-made : tie.Need-enum-known-made
-enum-known-made c = search needs
-
 slice-aggregate-print-all : tie.Need-slice-aggregate-print-all
 slice-aggregate-print-all c = search needs
 
@@ -44,28 +40,16 @@ slice-aggregate-print-all-4 : tie.Need-slice-aggregate-print-all-4
 slice-aggregate-print-all-4 c = search needs
 
 array-borrow-prefix-pattern : tie.Need-array-borrow-prefix-pattern
-array-borrow-prefix-pattern c = let c22 = c .before .before .before .before .before .before .before .before .before .before .before .before .before .before .before .before .before .before .before .before .before .before in inputs-fit (c22 .pre) refl
+array-borrow-prefix-pattern c = let c19 = c .before .before .before .before .before .before .before .before .before .before .before .before .before .before .before .before .before .before .before in inputs-fit (c19 .pre) refl
 
 slice-aggregate-print-all-5 : tie.Need-slice-aggregate-print-all-5
-slice-aggregate-print-all-5 c = let c23 = c .before .before .before .before .before .before .before .before .before .before .before .before .before .before .before .before .before .before .before .before .before .before .before in counted _ _ (inputs-fit (c23 .pre) refl)
+slice-aggregate-print-all-5 c = let c20 = c .before .before .before .before .before .before .before .before .before .before .before .before .before .before .before .before .before .before .before .before in counted _ _ (inputs-fit (c20 .pre) refl)
 
 print-all-requires : tie.Need-print-all-requires
-print-all-requires c κs = let c6 = c .before .before .before .before .before .before in let c12 = c6 .before .before .before .before .before .before in let c23 = c12 .before .before .before .before .before .before .before .before .before .before .before in (built-at (c12 .system .ensures) (c6 .made .given .1), sym (counted _ _ (inputs-fit (c23 .pre) refl)))
-
-enum-told : tie.Need-enum-told
-enum-told c = search needs
-
-cast-print-without-room : tie.Need-cast-print-without-room
-cast-print-without-room c = search needs
-
-print-without-room-requires : tie.Need-print-without-room-requires
-print-without-room-requires c κs = search needs
+print-all-requires c κs = let c9 = c .before .before .before .before .before .before .before .before .before in let c20 = c9 .before .before .before .before .before .before .before .before .before .before .before in made-ready (c20 .pre) (c9 .system .ensures) (sym (counted _ _ (inputs-fit (c20 .pre) refl)))
 
 returns : tie.Need-returns
 returns c = search needs
-
-returns-2 : tie.Need-returns-2
-returns-2 c = search needs
 
 pub judge-net-spec : {M : Type 1} → statement M
 judge-net-spec =
@@ -77,7 +61,6 @@ judge-net-spec =
     slice-aggregate-system-3
     slice-aggregate-system-4
     system-requires
-    enum-known-made
     slice-aggregate-print-all
     slice-aggregate-print-all-2
     slice-aggregate-print-all-3
@@ -85,8 +68,4 @@ judge-net-spec =
     array-borrow-prefix-pattern
     slice-aggregate-print-all-5
     print-all-requires
-    enum-told
-    cast-print-without-room
-    print-without-room-requires
-    returns
-    returns-2)
+    returns)

@@ -10,7 +10,7 @@ use Rattle.mullagrane.proofs.judge_text.Lts as lts
 use Rattle.aiger.proofs.for_circuit.number_of.Reads as number-of-reads
 use Rattle.aiger.proofs.for_circuit.read_net.Reads as read-net-reads
 use Rattle.mullagrane.proofs.judge_net.Reads as judge-net-reads
-use Rattle.mullagrane.proofs.printing.print_refused.Reads as print-refused-reads
+use Rattle.mullagrane.proofs.print_refused.Reads as print-refused-reads
 
 slice-aggregate-read-net : tie.Need-slice-aggregate-read-net
 slice-aggregate-read-net c = search needs

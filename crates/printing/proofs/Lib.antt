@@ -1,0 +1,4 @@
+pub mod Puts
+pub mod Verdicts
+pub mod Printed
+pub mod Decimals
