@@ -24,7 +24,8 @@ pub fn read_net(
     rights1: &mut [u16],
 ) -> NetRead
     requires { ⌜ Lent (slices (now ins) (now outs) (now lefts) (now rights0) (now rights1)) ⌝ }
-    ensures { λ r. ⌜ NetGot (now (s .entry)) (slices (now (ins .exit)) (now (outs .exit)) (now (lefts .exit)) (now (rights0 .exit)) (now (rights1 .exit))) (net.circuit (now (s .entry))) r ⌝ }
+    ensures { λ r. ⌜ NetGot (now (s .entry)) (slices (now (ins .exit)) (now (outs .exit)) (now (lefts .exit)) (now (rights0 .exit)) (now (rights1 .exit)))
+        (net.circuit (now (s .entry))) r ⌝ }
 {
     if 32768 < s.len() {
         return NetRead::Unread(Refusal::TooLong);

@@ -170,7 +170,8 @@ fn read_gates(
     marks: &mut [u8],
 ) -> Lines
     requires { ⌜ GatesAsked m n count (now lefts) (now rights0) (now rights1) (now marks) ⌝ }
-    ensures { λ r. ⌜ ((ls : List ℕ) → Marks (now (marks .entry)) ls → GatesRead (now (s .entry)) from m n count ls (now (lefts .exit)) (now (rights0 .exit)) (now (rights1 .exit)) (now (marks .exit)) r) ⌝ }
+    ensures { λ r. ⌜ ((ls : List ℕ) → Marks (now (marks .entry)) ls → GatesRead (now (s .entry)) from m n count ls (now (lefts .exit)) (now (rights0 .exit))
+        (now (rights1 .exit)) (now (marks .exit)) r) ⌝ }
 {
     let mut at = from;
     let mut k: usize = 0;
@@ -206,7 +207,8 @@ fn read_gates(
 // After the last gate, whose line ends at `at`: the outputs, from line I + 2 on, are in range and defined.
 fn check_outputs(marks: &[u8], h: Sizes, outs: &[u16], at: usize) -> NetRead
     requires { ⌜ KnownAsked (sizesOf h) (now outs) (now marks) ⌝ }
-    ensures { λ r. ⌜ ((ls : List ℕ) → Marks (now (marks .entry)) ls → Checked h at (net.unknownOutput (h .vars) ls (h .inputs + 2) (take (h .outputs) (now (outs .entry)))) r) ⌝ }
+    ensures { λ r. ⌜ ((ls : List ℕ) → Marks (now (marks .entry)) ls → Checked h at
+        (net.unknownOutput (h .vars) ls (h .inputs + 2) (take (h .outputs) (now (outs .entry)))) r) ⌝ }
 {
     let m = h.vars;
     let n = (h.inputs as usize) + 2;
@@ -234,7 +236,8 @@ pub fn read_body(
     rights1: &mut [u16],
 ) -> NetRead
     requires { ⌜ BodyAsked (sizesOf h) (slices (now ins) (now outs) (now lefts) (now rights0) (now rights1)) ⌝ }
-    ensures { λ r. ⌜ NetGot (now (s .entry)) (slices (now (ins .exit)) (now (outs .exit)) (now (lefts .exit)) (now (rights0 .exit)) (now (rights1 .exit))) (net.body (sizesOf h) (drop from (now (s .entry)))) r ⌝ }
+    ensures { λ r. ⌜ NetGot (now (s .entry)) (slices (now (ins .exit)) (now (outs .exit)) (now (lefts .exit)) (now (rights0 .exit)) (now (rights1 .exit)))
+        (net.body (sizesOf h) (drop from (now (s .entry)))) r ⌝ }
 {
     // variable 0, of the constants, needs no definition
     let mut marks = [0u8; 1025];

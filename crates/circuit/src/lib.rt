@@ -55,7 +55,9 @@ fn ended(
     pattern: &mut [u8],
 ) -> Judged
     requires { ⌜ EndAsked made n (slices (now vs) (now ts) (now es)) (now ins) (length (now pattern)) ⌝ }
-    ensures { λ r. ⌜ Answered (end-of made n (take (length (now (pattern .entry))) (now (ins .entry))) (slices (now (vs .entry)) (now (ts .entry)) (now (es .entry))) (now (pattern .entry))) r (slices (now (vs .exit)) (now (ts .exit)) (now (es .exit))) (now (pattern .exit)) ⌝ }
+    ensures { λ r. ⌜ Answered (end-of made n (take (length (now (pattern .entry))) (now (ins .entry)))
+        (slices (now (vs .entry)) (now (ts .entry)) (now (es .entry))) (now (pattern .entry))) r
+        (slices (now (vs .exit)) (now (ts .exit)) (now (es .exit))) (now (pattern .exit)) ⌝ }
 {
     let Made::At(k, c) = made else {
         free_rows(vs, ts, es, 0);
@@ -82,8 +84,12 @@ fn verdict_ready(
     o: usize,
     pattern: &mut [u8],
 ) -> Judged
-    requires { ⌜ ReadyAsked (slices (now vs) (now ts) (now es)) (now work) h (net.slices (now ins) (now outs) (now lefts) (now rights0) (now rights1)) o (length (now pattern)) ⌝ }
-    ensures { λ r. ⌜ Answered (end-with (verdict-of (net.netIn h (net.slices (now (ins .entry)) (now (outs .entry)) (now (lefts .entry)) (now (rights0 .entry)) (now (rights1 .entry)))) (length (now (vs .entry))) o) (slices (now (vs .entry)) (now (ts .entry)) (now (es .entry))) (now (pattern .entry))) r (slices (now (vs .exit)) (now (ts .exit)) (now (es .exit))) (now (pattern .exit)) ⌝ }
+    requires { ⌜ ReadyAsked (slices (now vs) (now ts) (now es)) (now work) h (net.slices (now ins) (now outs) (now lefts) (now rights0) (now rights1)) o
+        (length (now pattern)) ⌝ }
+    ensures { λ r. ⌜ Answered (end-with (verdict-of
+        (net.netIn h (net.slices (now (ins .entry)) (now (outs .entry)) (now (lefts .entry)) (now (rights0 .entry)) (now (rights1 .entry))))
+        (length (now (vs .entry))) o) (slices (now (vs .entry)) (now (ts .entry)) (now (es .entry))) (now (pattern .entry))) r
+        (slices (now (vs .exit)) (now (ts .exit)) (now (es .exit))) (now (pattern .exit)) ⌝ }
 {
     let n = h.vars;
     let l = Lit(outs[o]);
@@ -117,8 +123,12 @@ fn verdict(
     o: usize,
     pattern: &mut [u8],
 ) -> Judged
-    requires { ⌜ JudgeAsked (slices (now vs) (now ts) (now es)) h (net.slices (now ins) (now outs) (now lefts) (now rights0) (now rights1)) o (length (now pattern)) ⌝ }
-    ensures { λ r. ⌜ Answered (end-with (verdict-of (net.netIn h (net.slices (now (ins .entry)) (now (outs .entry)) (now (lefts .entry)) (now (rights0 .entry)) (now (rights1 .entry)))) (length (now (vs .entry))) o) (slices (now (vs .entry)) (now (ts .entry)) (now (es .entry))) (now (pattern .entry))) r (slices (now (vs .exit)) (now (ts .exit)) (now (es .exit))) (now (pattern .exit)) ⌝ }
+    requires { ⌜ JudgeAsked (slices (now vs) (now ts) (now es)) h (net.slices (now ins) (now outs) (now lefts) (now rights0) (now rights1)) o
+        (length (now pattern)) ⌝ }
+    ensures { λ r. ⌜ Answered (end-with (verdict-of
+        (net.netIn h (net.slices (now (ins .entry)) (now (outs .entry)) (now (lefts .entry)) (now (rights0 .entry)) (now (rights1 .entry))))
+        (length (now (vs .entry))) o) (slices (now (vs .entry)) (now (ts .entry)) (now (es .entry))) (now (pattern .entry))) r
+        (slices (now (vs .exit)) (now (ts .exit)) (now (es .exit))) (now (pattern .exit)) ⌝ }
 {
     let table = check(h.vars as usize, vs, ts, es, 0, work);
     match table {
@@ -157,7 +167,10 @@ fn asked(
     pattern: &mut [u8],
 ) -> Judged
     requires { ⌜ NetAsked (slices (now vs) (now ts) (now es)) h (net.slices (now ins) (now outs) (now lefts) (now rights0) (now rights1)) ⌝ }
-    ensures { λ r. ⌜ Answered (judge (net.netIn h (net.slices (now (ins .entry)) (now (outs .entry)) (now (lefts .entry)) (now (rights0 .entry)) (now (rights1 .entry)))) (slices (now (vs .entry)) (now (ts .entry)) (now (es .entry))) o (now (pattern .entry))) r (slices (now (vs .exit)) (now (ts .exit)) (now (es .exit))) (now (pattern .exit)) ⌝ }
+    ensures { λ r. ⌜ Answered (judge
+        (net.netIn h (net.slices (now (ins .entry)) (now (outs .entry)) (now (lefts .entry)) (now (rights0 .entry)) (now (rights1 .entry))))
+        (slices (now (vs .entry)) (now (ts .entry)) (now (es .entry))) o (now (pattern .entry))) r
+        (slices (now (vs .exit)) (now (ts .exit)) (now (es .exit))) (now (pattern .exit)) ⌝ }
 {
     if h.outputs as usize <= o {
         return Judged::Refused(14);
@@ -190,7 +203,8 @@ fn circuit_read(
     o: usize,
     pattern: &mut [u8],
 ) -> Judged
-    ensures { λ r. ⌜ Answered (circuit-call (now (text .entry)) (slices (now (vs .entry)) (now (ts .entry)) (now (es .entry))) o (now (pattern .entry))) r (slices (now (vs .exit)) (now (ts .exit)) (now (es .exit))) (now (pattern .exit)) ⌝ }
+    ensures { λ r. ⌜ Answered (circuit-call (now (text .entry)) (slices (now (vs .entry)) (now (ts .entry)) (now (es .entry))) o (now (pattern .entry))) r
+        (slices (now (vs .exit)) (now (ts .exit)) (now (es .exit))) (now (pattern .exit)) ⌝ }
 {
     if !lengths_fine(vs, ts, es) {
         return Judged::Refused(1);
@@ -237,7 +251,8 @@ pub fn circuit(
     o: usize,
     pattern: &mut [u8],
 ) -> Judged
-    ensures { λ r. ⌜ Answered (circuit-call (now (text .entry)) (slices (now (vs .entry)) (now (ts .entry)) (now (es .entry))) o (now (pattern .entry))) r (slices (now (vs .exit)) (now (ts .exit)) (now (es .exit))) (now (pattern .exit)) ⌝ }
+    ensures { λ r. ⌜ Answered (circuit-call (now (text .entry)) (slices (now (vs .entry)) (now (ts .entry)) (now (es .entry))) o (now (pattern .entry))) r
+        (slices (now (vs .exit)) (now (ts .exit)) (now (es .exit))) (now (pattern .exit)) ⌝ }
     ensures { λ _. ⌜ now (work .exit) ≡ replicate (length (now (work .entry))) 0 ⌝ }
 {
     let r = circuit_read(text, vs, ts, es, work, o, pattern);

@@ -24,7 +24,9 @@ pub fn output(
     l: Lit,
 ) -> Made
     requires { ⌜ OutputAsked n (slices (now vs) (now ts) (now es)) (now work) (now lefts) (now rights0) (now rights1) gates (l .0) ⌝ }
-    ensures { λ r. ⌜ Took n (output-steps n (gatesOf gates (now (lefts .entry)) (now (rights0 .entry)) (now (rights1 .entry))) (l .0)) r 0 (slices (now (vs .entry)) (now (ts .entry)) (now (es .entry))) (slices (now (vs .exit)) (now (ts .exit)) (now (es .exit))) (now (work .entry)) (now (work .exit)) ⌝ }
+    ensures { λ r. ⌜ Took n (output-steps n (gatesOf gates (now (lefts .entry)) (now (rights0 .entry)) (now (rights1 .entry))) (l .0)) r 0
+        (slices (now (vs .entry)) (now (ts .entry)) (now (es .entry))) (slices (now (vs .exit)) (now (ts .exit)) (now (es .exit)))
+        (now (work .entry)) (now (work .exit)) ⌝ }
 {
     let Made::At(system, c1) = build(vs, ts, es, work, n, lefts, rights0, rights1, gates) else {
         return Made::Full;

@@ -19,7 +19,8 @@ pub fn write_pattern(
     pattern: &mut [u8],
 )
     requires { ⌜ PatternAsked n count (slices (now vs) (now ts) (now es)) (k .0) (now ins) (length (now pattern)) ⌝ }
-    ensures { λ _. ⌜ now (pattern .exit) ≡ bytes-at n (one (rows-of (slices (now (vs .entry)) (now (ts .entry)) (now (es .entry))) count) (k .0)) (take (length (now (pattern .entry))) (now (ins .entry))) ⌝ }
+    ensures { λ _. ⌜ now (pattern .exit) ≡ bytes-at n (one (rows-of (slices (now (vs .entry)) (now (ts .entry)) (now (es .entry))) count) (k .0))
+        (take (length (now (pattern .entry))) (now (ins .entry))) ⌝ }
 {
     let mut ones = [0u8; 1024];
     one_of(vs, ts, es, count, k, &mut ones);

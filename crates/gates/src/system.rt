@@ -23,7 +23,8 @@ pub fn literal(
     l: Lit,
 ) -> Made
     requires { ⌜ LiteralAsked n count (slices (now vs) (now ts) (now es)) (now work) (l .0) ⌝ }
-    ensures { λ r. ⌜ Kept n (literal-steps n (l .0)) r count (slices (now (vs .entry)) (now (ts .entry)) (now (es .entry))) (slices (now (vs .exit)) (now (ts .exit)) (now (es .exit))) (now (work .entry)) (now (work .exit)) ⌝ }
+    ensures { λ r. ⌜ Kept n (literal-steps n (l .0)) r count (slices (now (vs .entry)) (now (ts .entry)) (now (es .entry)))
+        (slices (now (vs .exit)) (now (ts .exit)) (now (es .exit))) (now (work .entry)) (now (work .exit)) ⌝ }
 {
     if l.0 < 2 {
         return Made::At(Row(l.0), count);
@@ -48,7 +49,8 @@ fn joined(
     g: Row,
 ) -> Made
     requires { ⌜ JoinedAsked n count (slices (now vs) (now ts) (now es)) (now work) (left .0) (system .0) (f .0) (g .0) ⌝ }
-    ensures { λ r. ⌜ Kept n (joined-steps n (left .0) (system .0) (f .0) (g .0)) r count (slices (now (vs .entry)) (now (ts .entry)) (now (es .entry))) (slices (now (vs .exit)) (now (ts .exit)) (now (es .exit))) (now (work .entry)) (now (work .exit)) ⌝ }
+    ensures { λ r. ⌜ Kept n (joined-steps n (left .0) (system .0) (f .0) (g .0)) r count (slices (now (vs .entry)) (now (ts .entry)) (now (es .entry)))
+        (slices (now (vs .exit)) (now (ts .exit)) (now (es .exit))) (now (work .entry)) (now (work .exit)) ⌝ }
 {
     let Made::At(e, c) = product(vs, ts, es, work, n, count, f, g) else {
         return Made::Full;
@@ -72,7 +74,9 @@ pub fn gate(
     system: Row,
 ) -> Made
     requires { ⌜ GateAsked n count (slices (now vs) (now ts) (now es)) (now work) (gate-of (left .0) (right0 .0) (right1 .0)) (system .0) ⌝ }
-    ensures { λ r. ⌜ Kept n (gate-steps n (gate-of (left .0) (right0 .0) (right1 .0)) (system .0)) r count (slices (now (vs .entry)) (now (ts .entry)) (now (es .entry))) (slices (now (vs .exit)) (now (ts .exit)) (now (es .exit))) (now (work .entry)) (now (work .exit)) ⌝ }
+    ensures { λ r. ⌜ Kept n (gate-steps n (gate-of (left .0) (right0 .0) (right1 .0)) (system .0)) r count
+        (slices (now (vs .entry)) (now (ts .entry)) (now (es .entry))) (slices (now (vs .exit)) (now (ts .exit)) (now (es .exit)))
+        (now (work .entry)) (now (work .exit)) ⌝ }
 {
     let Made::At(f, c1) = literal(vs, ts, es, work, n, count, right0) else {
         return Made::Full;
@@ -96,7 +100,9 @@ pub fn build(
     gates: usize,
 ) -> Made
     requires { ⌜ BuildAsked n (slices (now vs) (now ts) (now es)) (now work) (now lefts) (now rights0) (now rights1) gates ⌝ }
-    ensures { λ r. ⌜ Kept n (build n (gatesOf gates (now (lefts .entry)) (now (rights0 .entry)) (now (rights1 .entry))) 1) r 0 (slices (now (vs .entry)) (now (ts .entry)) (now (es .entry))) (slices (now (vs .exit)) (now (ts .exit)) (now (es .exit))) (now (work .entry)) (now (work .exit)) ⌝ }
+    ensures { λ r. ⌜ Kept n (build n (gatesOf gates (now (lefts .entry)) (now (rights0 .entry)) (now (rights1 .entry))) 1) r 0
+        (slices (now (vs .entry)) (now (ts .entry)) (now (es .entry))) (slices (now (vs .exit)) (now (ts .exit)) (now (es .exit)))
+        (now (work .entry)) (now (work .exit)) ⌝ }
 {
     let mut system = Row(1);
     let mut count = 0;

@@ -30,7 +30,9 @@ fn equation_ready(
     tail: Row,
 ) -> Answer
     requires { ⌜ (Live n count (slices (now vs) (now ts) (now es)) (now work)) × (n ≤ 1024) ⌝ }
-    ensures { λ r. ⌜ Does (Adds count (slices (now (vs .entry)) (now (ts .entry)) (now (es .entry))) (lead .0) (system .0) (tail .0)) (equation-checked n count (slices (now (vs .entry)) (now (ts .entry)) (now (es .entry))) (lead .0) (system .0) (tail .0)) r (slices (now (vs .exit)) (now (ts .exit)) (now (es .exit))) ⌝ }
+    ensures { λ r. ⌜ Does (Adds count (slices (now (vs .entry)) (now (ts .entry)) (now (es .entry))) (lead .0) (system .0) (tail .0))
+        (equation-checked n count (slices (now (vs .entry)) (now (ts .entry)) (now (es .entry))) (lead .0) (system .0) (tail .0)) r
+        (slices (now (vs .exit)) (now (ts .exit)) (now (es .exit))) ⌝ }
 {
     if count + 2 <= tail.0 as usize {
         return Answer::Refused(3);
@@ -76,7 +78,9 @@ fn equation_checked(
     system: Row,
     tail: Row,
 ) -> Answer
-    ensures { λ r. ⌜ Does (Adds count (slices (now (vs .entry)) (now (ts .entry)) (now (es .entry))) (lead .0) (system .0) (tail .0)) (equation-call n count (slices (now (vs .entry)) (now (ts .entry)) (now (es .entry))) (lead .0) (system .0) (tail .0)) r (slices (now (vs .exit)) (now (ts .exit)) (now (es .exit))) ⌝ }
+    ensures { λ r. ⌜ Does (Adds count (slices (now (vs .entry)) (now (ts .entry)) (now (es .entry))) (lead .0) (system .0) (tail .0))
+        (equation-call n count (slices (now (vs .entry)) (now (ts .entry)) (now (es .entry))) (lead .0) (system .0) (tail .0)) r
+        (slices (now (vs .exit)) (now (ts .exit)) (now (es .exit))) ⌝ }
 {
     let table = check(n, vs, ts, es, count, work);
     match table {
@@ -98,7 +102,9 @@ pub fn equation(
     system: Row,
     tail: Row,
 ) -> Answer
-    ensures { λ r. ⌜ Does (Adds count (slices (now (vs .entry)) (now (ts .entry)) (now (es .entry))) (lead .0) (system .0) (tail .0)) (equation-call n count (slices (now (vs .entry)) (now (ts .entry)) (now (es .entry))) (lead .0) (system .0) (tail .0)) r (slices (now (vs .exit)) (now (ts .exit)) (now (es .exit))) ⌝ }
+    ensures { λ r. ⌜ Does (Adds count (slices (now (vs .entry)) (now (ts .entry)) (now (es .entry))) (lead .0) (system .0) (tail .0))
+        (equation-call n count (slices (now (vs .entry)) (now (ts .entry)) (now (es .entry))) (lead .0) (system .0) (tail .0)) r
+        (slices (now (vs .exit)) (now (ts .exit)) (now (es .exit))) ⌝ }
     ensures { λ _. ⌜ now (work .exit) ≡ replicate (length (now (work .entry))) 0 ⌝ }
 {
     let r = equation_checked(n, vs, ts, es, count, work, lead, system, tail);
@@ -117,7 +123,9 @@ fn normal_ready(
     f: Row,
 ) -> Answer
     requires { ⌜ (Live n count (slices (now vs) (now ts) (now es)) (now work)) × (n ≤ 1024) ⌝ }
-    ensures { λ r. ⌜ Does (Reduced count (slices (now (vs .entry)) (now (ts .entry)) (now (es .entry))) (p .0) (f .0)) (normal-checked n count (slices (now (vs .entry)) (now (ts .entry)) (now (es .entry))) (p .0) (f .0)) r (slices (now (vs .exit)) (now (ts .exit)) (now (es .exit))) ⌝ }
+    ensures { λ r. ⌜ Does (Reduced count (slices (now (vs .entry)) (now (ts .entry)) (now (es .entry))) (p .0) (f .0))
+        (normal-checked n count (slices (now (vs .entry)) (now (ts .entry)) (now (es .entry))) (p .0) (f .0)) r
+        (slices (now (vs .exit)) (now (ts .exit)) (now (es .exit))) ⌝ }
 {
     if count + 2 <= p.0 as usize {
         return Answer::Refused(3);
@@ -142,7 +150,9 @@ fn normal_checked(
     p: Row,
     f: Row,
 ) -> Answer
-    ensures { λ r. ⌜ Does (Reduced count (slices (now (vs .entry)) (now (ts .entry)) (now (es .entry))) (p .0) (f .0)) (normal-call n count (slices (now (vs .entry)) (now (ts .entry)) (now (es .entry))) (p .0) (f .0)) r (slices (now (vs .exit)) (now (ts .exit)) (now (es .exit))) ⌝ }
+    ensures { λ r. ⌜ Does (Reduced count (slices (now (vs .entry)) (now (ts .entry)) (now (es .entry))) (p .0) (f .0))
+        (normal-call n count (slices (now (vs .entry)) (now (ts .entry)) (now (es .entry))) (p .0) (f .0)) r
+        (slices (now (vs .exit)) (now (ts .exit)) (now (es .exit))) ⌝ }
 {
     let table = check(n, vs, ts, es, count, work);
     match table {
@@ -163,7 +173,9 @@ pub fn normal_form(
     p: Row,
     f: Row,
 ) -> Answer
-    ensures { λ r. ⌜ Does (Reduced count (slices (now (vs .entry)) (now (ts .entry)) (now (es .entry))) (p .0) (f .0)) (normal-call n count (slices (now (vs .entry)) (now (ts .entry)) (now (es .entry))) (p .0) (f .0)) r (slices (now (vs .exit)) (now (ts .exit)) (now (es .exit))) ⌝ }
+    ensures { λ r. ⌜ Does (Reduced count (slices (now (vs .entry)) (now (ts .entry)) (now (es .entry))) (p .0) (f .0))
+        (normal-call n count (slices (now (vs .entry)) (now (ts .entry)) (now (es .entry))) (p .0) (f .0)) r
+        (slices (now (vs .exit)) (now (ts .exit)) (now (es .exit))) ⌝ }
     ensures { λ _. ⌜ now (work .exit) ≡ replicate (length (now (work .entry))) 0 ⌝ }
 {
     let r = normal_checked(n, vs, ts, es, count, work, p, f);

@@ -44,7 +44,8 @@ fn variable_ready(
     v: Var,
 ) -> Answer
     requires { ⌜ Live n count (slices (now vs) (now ts) (now es)) (now work) ⌝ }
-    ensures { λ r. ⌜ variable-checked n count (slices (now (vs .entry)) (now (ts .entry)) (now (es .entry))) (v .0) ≡ left r (slices (now (vs .exit)) (now (ts .exit)) (now (es .exit))) ⌝ }
+    ensures { λ r. ⌜ variable-checked n count (slices (now (vs .entry)) (now (ts .entry)) (now (es .entry))) (v .0) ≡ left r
+        (slices (now (vs .exit)) (now (ts .exit)) (now (es .exit))) ⌝ }
 {
     if n <= v.0 as usize {
         return Answer::Refused(5);
@@ -73,7 +74,8 @@ fn variable_checked(
     work: &mut [u64],
     v: Var,
 ) -> Answer
-    ensures { λ r. ⌜ variable-call n count (slices (now (vs .entry)) (now (ts .entry)) (now (es .entry))) (v .0) ≡ left r (slices (now (vs .exit)) (now (ts .exit)) (now (es .exit))) ⌝ }
+    ensures { λ r. ⌜ variable-call n count (slices (now (vs .entry)) (now (ts .entry)) (now (es .entry))) (v .0) ≡ left r
+        (slices (now (vs .exit)) (now (ts .exit)) (now (es .exit))) ⌝ }
 {
     let table = check(n, vs, ts, es, count, work);
     match table {
@@ -93,7 +95,8 @@ pub fn variable(
     work: &mut [u64],
     v: Var,
 ) -> Answer
-    ensures { λ r. ⌜ variable-call n count (slices (now (vs .entry)) (now (ts .entry)) (now (es .entry))) (v .0) ≡ left r (slices (now (vs .exit)) (now (ts .exit)) (now (es .exit))) ⌝ }
+    ensures { λ r. ⌜ variable-call n count (slices (now (vs .entry)) (now (ts .entry)) (now (es .entry))) (v .0) ≡ left r
+        (slices (now (vs .exit)) (now (ts .exit)) (now (es .exit))) ⌝ }
     ensures { λ _. ⌜ now (work .exit) ≡ replicate (length (now (work .entry))) 0 ⌝ }
 {
     let r = variable_checked(n, vs, ts, es, count, work, v);
@@ -172,7 +175,8 @@ pub fn value(
 
 fn one_ready(vs: &[u16], ts: &[u16], es: &[u16], count: usize, f: Row, bytes: &mut [u8]) -> Sought
     requires { ⌜ Lasting count (slices (now vs) (now ts) (now es)) (now bytes) ⌝ }
-    ensures { λ r. ⌜ one-checked (length (now (bytes .entry))) count (slices (now (vs .entry)) (now (ts .entry)) (now (es .entry))) (f .0) (now (bytes .entry)) ≡ one-left r (now (bytes .exit)) ⌝ }
+    ensures { λ r. ⌜ one-checked (length (now (bytes .entry))) count (slices (now (vs .entry)) (now (ts .entry)) (now (es .entry))) (f .0)
+        (now (bytes .entry)) ≡ one-left r (now (bytes .exit)) ⌝ }
 {
     if count + 2 <= f.0 as usize {
         return Sought::NoOne(3);
@@ -194,7 +198,8 @@ fn one_checked(
     f: Row,
     bytes: &mut [u8],
 ) -> Sought
-    ensures { λ r. ⌜ one-call n count (slices (now (vs .entry)) (now (ts .entry)) (now (es .entry))) (f .0) (now (bytes .entry)) ≡ one-left r (now (bytes .exit)) ⌝ }
+    ensures { λ r. ⌜ one-call n count (slices (now (vs .entry)) (now (ts .entry)) (now (es .entry))) (f .0) (now (bytes .entry)) ≡ one-left r
+        (now (bytes .exit)) ⌝ }
 {
     if bytes.len() != n {
         return Sought::NoOne(1);
@@ -218,7 +223,8 @@ pub fn one(
     f: Row,
     bytes: &mut [u8],
 ) -> Sought
-    ensures { λ r. ⌜ one-call n count (slices (now (vs .entry)) (now (ts .entry)) (now (es .entry))) (f .0) (now (bytes .entry)) ≡ one-left r (now (bytes .exit)) ⌝ }
+    ensures { λ r. ⌜ one-call n count (slices (now (vs .entry)) (now (ts .entry)) (now (es .entry))) (f .0) (now (bytes .entry)) ≡ one-left r
+        (now (bytes .exit)) ⌝ }
     ensures { λ r. ⌜ OneMeans r count (slices (now (vs .entry)) (now (ts .entry)) (now (es .entry))) (f .0) (now (bytes .exit)) ⌝ }
     ensures { λ _. ⌜ now (work .exit) ≡ replicate (length (now (work .entry))) 0 ⌝ }
 {

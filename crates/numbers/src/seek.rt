@@ -13,7 +13,8 @@ ghost use Rattle.numbers.specs.Inner.{Lasting};
 // Follows the rows from the number f on, and sets to 1 what is 1 in the one that is found; the other bytes are zeros.
 fn follow(vs: &[u16], ts: &[u16], es: &[u16], count: usize, f: Row, bytes: &mut [u8])
     requires { ⌜ (Lasting count (slices (now vs) (now ts) (now es)) (now bytes)) × (f .0 < count + 2) × (now bytes ≡ replicate (length (now bytes)) 0) ⌝ }
-    ensures { λ _. ⌜ now (bytes .exit) ≡ bytes-of (length (now (bytes .entry))) (one (rows-of (slices (now (vs .entry)) (now (ts .entry)) (now (es .entry))) count) (f .0)) ⌝ }
+    ensures { λ _. ⌜ now (bytes .exit) ≡ bytes-of (length (now (bytes .entry)))
+        (one (rows-of (slices (now (vs .entry)) (now (ts .entry)) (now (es .entry))) count) (f .0)) ⌝ }
 {
     let mut k = f.0 as usize;
     while 2 <= k {
@@ -30,7 +31,8 @@ fn follow(vs: &[u16], ts: &[u16], es: &[u16], count: usize, f: Row, bytes: &mut 
 // The one of the number f, as bytes.
 pub fn one_of(vs: &[u16], ts: &[u16], es: &[u16], count: usize, f: Row, bytes: &mut [u8])
     requires { ⌜ (Lasting count (slices (now vs) (now ts) (now es)) (now bytes)) × (f .0 < count + 2) ⌝ }
-    ensures { λ _. ⌜ now (bytes .exit) ≡ bytes-of (length (now (bytes .entry))) (one (rows-of (slices (now (vs .entry)) (now (ts .entry)) (now (es .entry))) count) (f .0)) ⌝ }
+    ensures { λ _. ⌜ now (bytes .exit) ≡ bytes-of (length (now (bytes .entry)))
+        (one (rows-of (slices (now (vs .entry)) (now (ts .entry)) (now (es .entry))) count) (f .0)) ⌝ }
 {
     zero_bytes(bytes);
     follow(vs, ts, es, count, f, bytes);

@@ -31,8 +31,10 @@ fn system_ready(
     es: &mut [u16],
     work: &mut [u64],
 ) -> Made
-    requires { ⌜ (NetAsked (slices (now vs) (now ts) (now es)) h (net.slices (now ins) (now outs) (now lefts) (now rights0) (now rights1))) × (Live (h .vars) 0 (slices (now vs) (now ts) (now es)) (now work)) ⌝ }
-    ensures { λ r. ⌜ Builds r (slices (now (vs .entry)) (now (ts .entry)) (now (es .entry))) (slices (now (vs .exit)) (now (ts .exit)) (now (es .exit))) h (net.slices (now (ins .entry)) (now (outs .entry)) (now (lefts .entry)) (now (rights0 .entry)) (now (rights1 .entry))) ⌝ }
+    requires { ⌜ (NetAsked (slices (now vs) (now ts) (now es)) h (net.slices (now ins) (now outs) (now lefts) (now rights0) (now rights1))) ×
+        (Live (h .vars) 0 (slices (now vs) (now ts) (now es)) (now work)) ⌝ }
+    ensures { λ r. ⌜ Builds r (slices (now (vs .entry)) (now (ts .entry)) (now (es .entry))) (slices (now (vs .exit)) (now (ts .exit)) (now (es .exit))) h
+        (net.slices (now (ins .entry)) (now (outs .entry)) (now (lefts .entry)) (now (rights0 .entry)) (now (rights1 .entry))) ⌝ }
 {
     let n = h.vars;
     let gates = h.gates as usize;
@@ -53,7 +55,8 @@ pub fn system(
     work: &mut [u64],
 ) -> Made
     requires { ⌜ NetAsked (slices (now vs) (now ts) (now es)) h (net.slices (now ins) (now outs) (now lefts) (now rights0) (now rights1)) ⌝ }
-    ensures { λ r. ⌜ Builds r (slices (now (vs .entry)) (now (ts .entry)) (now (es .entry))) (slices (now (vs .exit)) (now (ts .exit)) (now (es .exit))) h (net.slices (now (ins .entry)) (now (outs .entry)) (now (lefts .entry)) (now (rights0 .entry)) (now (rights1 .entry))) ⌝ }
+    ensures { λ r. ⌜ Builds r (slices (now (vs .entry)) (now (ts .entry)) (now (es .entry))) (slices (now (vs .exit)) (now (ts .exit)) (now (es .exit))) h
+        (net.slices (now (ins .entry)) (now (outs .entry)) (now (lefts .entry)) (now (rights0 .entry)) (now (rights1 .entry))) ⌝ }
 {
     let table = check(h.vars as usize, vs, ts, es, 0, work);
     match table {
@@ -77,7 +80,9 @@ fn judge_from(
     pattern: &mut [u8],
 ) -> Judged
     requires { ⌜ FromAsked n count (slices (now vs) (now ts) (now es)) (now work) (l .0) (system .0) (now ins) (length (now pattern)) ⌝ }
-    ensures { λ r. ⌜ Ended (output-from n (l .0) (system .0)) n (take (length (now (pattern .entry))) (now (ins .entry))) r count (slices (now (vs .entry)) (now (ts .entry)) (now (es .entry))) (slices (now (vs .exit)) (now (ts .exit)) (now (es .exit))) (now (pattern .entry)) (now (pattern .exit)) ⌝ }
+    ensures { λ r. ⌜ Ended (output-from n (l .0) (system .0)) n (take (length (now (pattern .entry))) (now (ins .entry))) r count
+        (slices (now (vs .entry)) (now (ts .entry)) (now (es .entry))) (slices (now (vs .exit)) (now (ts .exit)) (now (es .exit)))
+        (now (pattern .entry)) (now (pattern .exit)) ⌝ }
 {
     let Made::At(p, c1) = literal(vs, ts, es, work, n, count, l) else {
         return Judged::RoomOut; // none for the literal
@@ -109,8 +114,12 @@ pub fn judge(
     o: usize,
     pattern: &mut [u8],
 ) -> Judged
-    requires { ⌜ OutputOf (slices (now vs) (now ts) (now es)) h (net.slices (now ins) (now outs) (now lefts) (now rights0) (now rights1)) count (system .0) o (length (now pattern)) ⌝ }
-    ensures { λ r. ⌜ JudgedAs (net.netIn h (net.slices (now (ins .entry)) (now (outs .entry)) (now (lefts .entry)) (now (rights0 .entry)) (now (rights1 .entry)))) o r count (slices (now (vs .entry)) (now (ts .entry)) (now (es .entry))) (slices (now (vs .exit)) (now (ts .exit)) (now (es .exit))) (now (pattern .entry)) (now (pattern .exit)) ⌝ }
+    requires { ⌜ OutputOf (slices (now vs) (now ts) (now es)) h (net.slices (now ins) (now outs) (now lefts) (now rights0) (now rights1)) count (system .0) o
+        (length (now pattern)) ⌝ }
+    ensures { λ r. ⌜ JudgedAs
+        (net.netIn h (net.slices (now (ins .entry)) (now (outs .entry)) (now (lefts .entry)) (now (rights0 .entry)) (now (rights1 .entry)))) o r
+        count (slices (now (vs .entry)) (now (ts .entry)) (now (es .entry))) (slices (now (vs .exit)) (now (ts .exit)) (now (es .exit)))
+        (now (pattern .entry)) (now (pattern .exit)) ⌝ }
 {
     let table = check(h.vars as usize, vs, ts, es, count, work);
     match table {

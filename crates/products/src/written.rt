@@ -29,7 +29,8 @@ fn sum_three(
     c: Row,
 ) -> Made
     requires { ⌜ Three n count (slices (now vs) (now ts) (now es)) (now work) (a .0) (b .0) (c .0) ⌝ }
-    ensures { λ r. ⌜ Kept n (three-steps n (a .0) (b .0) (c .0)) r count (slices (now (vs .entry)) (now (ts .entry)) (now (es .entry))) (slices (now (vs .exit)) (now (ts .exit)) (now (es .exit))) (now (work .entry)) (now (work .exit)) ⌝ }
+    ensures { λ r. ⌜ Kept n (three-steps n (a .0) (b .0) (c .0)) r count (slices (now (vs .entry)) (now (ts .entry)) (now (es .entry)))
+        (slices (now (vs .exit)) (now (ts .exit)) (now (es .exit))) (now (work .entry)) (now (work .exit)) ⌝ }
 {
     let Made::At(d, n1) = sums::written::sum(vs, ts, es, work, n, count, a, b) else {
         return Made::Full;
@@ -49,7 +50,8 @@ pub fn product(
     g: Row,
 ) -> Made
     requires { ⌜ Pair n count (slices (now vs) (now ts) (now es)) (now work) (f .0) (g .0) ⌝ }
-    ensures { λ r. ⌜ Kept n (product n (f .0) (g .0)) r count (slices (now (vs .entry)) (now (ts .entry)) (now (es .entry))) (slices (now (vs .exit)) (now (ts .exit)) (now (es .exit))) (now (work .entry)) (now (work .exit)) ⌝ }
+    ensures { λ r. ⌜ Kept n (product n (f .0) (g .0)) r count (slices (now (vs .entry)) (now (ts .entry)) (now (es .entry)))
+        (slices (now (vs .exit)) (now (ts .exit)) (now (es .exit))) (now (work .entry)) (now (work .exit)) ⌝ }
 {
     if f.0 == 1 {
         return Made::At(g, count);
@@ -90,7 +92,8 @@ fn product_deep(
 ) -> Made
     requires { ⌜ Pair n count (slices (now vs) (now ts) (now es)) (now work) (f .0) (g .0) ⌝ }
     requires { ⌜ Proper (f .0) (g .0) ⌝ }
-    ensures { λ r. ⌜ Kept n (product n (f .0) (g .0)) r count (slices (now (vs .entry)) (now (ts .entry)) (now (es .entry))) (slices (now (vs .exit)) (now (ts .exit)) (now (es .exit))) (now (work .entry)) (now (work .exit)) ⌝ }
+    ensures { λ r. ⌜ Kept n (product n (f .0) (g .0)) r count (slices (now (vs .entry)) (now (ts .entry)) (now (es .entry)))
+        (slices (now (vs .exit)) (now (ts .exit)) (now (es .exit))) (now (work .entry)) (now (work .exit)) ⌝ }
 {
     let p = split(vs, ts, es, n, count, f, g);
     let v = p.v;
@@ -121,7 +124,8 @@ fn then_part(
     ge: Row,
 ) -> Made
     requires { ⌜ Quad n count (slices (now vs) (now ts) (now es)) (now work) (ft .0) (fe .0) (gt .0) (ge .0) ⌝ }
-    ensures { λ r. ⌜ Kept n (then-steps n (ft .0) (fe .0) (gt .0) (ge .0)) r count (slices (now (vs .entry)) (now (ts .entry)) (now (es .entry))) (slices (now (vs .exit)) (now (ts .exit)) (now (es .exit))) (now (work .entry)) (now (work .exit)) ⌝ }
+    ensures { λ r. ⌜ Kept n (then-steps n (ft .0) (fe .0) (gt .0) (ge .0)) r count (slices (now (vs .entry)) (now (ts .entry)) (now (es .entry)))
+        (slices (now (vs .exit)) (now (ts .exit)) (now (es .exit))) (now (work .entry)) (now (work .exit)) ⌝ }
 {
     let Made::At(a, c1) = product(vs, ts, es, work, n, count, fe, gt) else {
         return Made::Full;
@@ -143,7 +147,8 @@ fn then_rest(
     ge: Row,
 ) -> Made
     requires { ⌜ Rest n count (slices (now vs) (now ts) (now es)) (now work) (a .0) (ft .0) (gt .0) (ge .0) ⌝ }
-    ensures { λ r. ⌜ Kept n (rest-steps n (a .0) (ft .0) (gt .0) (ge .0)) r count (slices (now (vs .entry)) (now (ts .entry)) (now (es .entry))) (slices (now (vs .exit)) (now (ts .exit)) (now (es .exit))) (now (work .entry)) (now (work .exit)) ⌝ }
+    ensures { λ r. ⌜ Kept n (rest-steps n (a .0) (ft .0) (gt .0) (ge .0)) r count (slices (now (vs .entry)) (now (ts .entry)) (now (es .entry)))
+        (slices (now (vs .exit)) (now (ts .exit)) (now (es .exit))) (now (work .entry)) (now (work .exit)) ⌝ }
 {
     let Made::At(b, c1) = product(vs, ts, es, work, n, count, ft, gt) else {
         return Made::Full;

@@ -33,7 +33,8 @@ fn join(
     c: Row,
 ) -> Made
     requires { ⌜ Three n count (slices (now vs) (now ts) (now es)) (now work) (a .0) (b .0) (c .0) ⌝ }
-    ensures { λ r. ⌜ Kept n (join-steps n (a .0) (b .0) (c .0)) r count (slices (now (vs .entry)) (now (ts .entry)) (now (es .entry))) (slices (now (vs .exit)) (now (ts .exit)) (now (es .exit))) (now (work .entry)) (now (work .exit)) ⌝ }
+    ensures { λ r. ⌜ Kept n (join-steps n (a .0) (b .0) (c .0)) r count (slices (now (vs .entry)) (now (ts .entry)) (now (es .entry)))
+        (slices (now (vs .exit)) (now (ts .exit)) (now (es .exit))) (now (work .entry)) (now (work .exit)) ⌝ }
 {
     let Made::At(d, n1) = product(vs, ts, es, work, n, count, a, b) else {
         return Made::Full;
@@ -53,7 +54,8 @@ fn normal_form(
     f: Row,
 ) -> Made
     requires { ⌜ Reduces n count (slices (now vs) (now ts) (now es)) (now work) (p .0) (f .0) ⌝ }
-    ensures { λ r. ⌜ Kept n (normal n (p .0) (f .0)) r count (slices (now (vs .entry)) (now (ts .entry)) (now (es .entry))) (slices (now (vs .exit)) (now (ts .exit)) (now (es .exit))) (now (work .entry)) (now (work .exit)) ⌝ }
+    ensures { λ r. ⌜ Kept n (normal n (p .0) (f .0)) r count (slices (now (vs .entry)) (now (ts .entry)) (now (es .entry)))
+        (slices (now (vs .exit)) (now (ts .exit)) (now (es .exit))) (now (work .entry)) (now (work .exit)) ⌝ }
 {
     if p.0 < 2 {
         return Made::At(p, count);
@@ -87,7 +89,8 @@ fn normal_deep(
 ) -> Made
     requires { ⌜ Reduces n count (slices (now vs) (now ts) (now es)) (now work) (p .0) (f .0) ⌝ }
     requires { ⌜ Proper n (rows-of (slices (now vs) (now ts) (now es)) count) (p .0) (f .0) ⌝ }
-    ensures { λ r. ⌜ Kept n (normal n (p .0) (f .0)) r count (slices (now (vs .entry)) (now (ts .entry)) (now (es .entry))) (slices (now (vs .exit)) (now (ts .exit)) (now (es .exit))) (now (work .entry)) (now (work .exit)) ⌝ }
+    ensures { λ r. ⌜ Kept n (normal n (p .0) (f .0)) r count (slices (now (vs .entry)) (now (ts .entry)) (now (es .entry)))
+        (slices (now (vs .exit)) (now (ts .exit)) (now (es .exit))) (now (work .entry)) (now (work .exit)) ⌝ }
 {
     let x = row_of(vs, ts, es, count, n, p);
     let y = row_of(vs, ts, es, count, n, f);
@@ -109,7 +112,8 @@ fn normal_below(
     f: Row,
 ) -> Made
     requires { ⌜ Below n count (slices (now vs) (now ts) (now es)) (now work) (x .v .0) (x .t .0) (x .e .0) (f .0) ⌝ }
-    ensures { λ r. ⌜ Kept n (below-steps n (x .v .0) (x .t .0) (x .e .0) (f .0)) r count (slices (now (vs .entry)) (now (ts .entry)) (now (es .entry))) (slices (now (vs .exit)) (now (ts .exit)) (now (es .exit))) (now (work .entry)) (now (work .exit)) ⌝ }
+    ensures { λ r. ⌜ Kept n (below-steps n (x .v .0) (x .t .0) (x .e .0) (f .0)) r count (slices (now (vs .entry)) (now (ts .entry)) (now (es .entry)))
+        (slices (now (vs .exit)) (now (ts .exit)) (now (es .exit))) (now (work .entry)) (now (work .exit)) ⌝ }
 {
     let v = x.v;
     let xt = x.t;
@@ -135,7 +139,8 @@ fn normal_meet(
     y: Node,
 ) -> Made
     requires { ⌜ Meet n count (slices (now vs) (now ts) (now es)) (now work) (x .v .0) (x .t .0) (x .e .0) (y .t .0) (y .e .0) ⌝ }
-    ensures { λ r. ⌜ Kept n (meet-steps n (x .t .0) (x .e .0) (y .t .0) (y .e .0)) r count (slices (now (vs .entry)) (now (ts .entry)) (now (es .entry))) (slices (now (vs .exit)) (now (ts .exit)) (now (es .exit))) (now (work .entry)) (now (work .exit)) ⌝ }
+    ensures { λ r. ⌜ Kept n (meet-steps n (x .t .0) (x .e .0) (y .t .0) (y .e .0)) r count (slices (now (vs .entry)) (now (ts .entry)) (now (es .entry)))
+        (slices (now (vs .exit)) (now (ts .exit)) (now (es .exit))) (now (work .entry)) (now (work .exit)) ⌝ }
 {
     let xt = x.t;
     let others = y.t;
@@ -163,7 +168,8 @@ fn meet_rest(
     f: Row,
 ) -> Made
     requires { ⌜ Rest n count (slices (now vs) (now ts) (now es)) (now work) (a .0) (b .0) (x .v .0) (x .e .0) (f .0) ⌝ }
-    ensures { λ r. ⌜ Kept n (rest-steps n (a .0) (b .0) (x .e .0) (f .0)) r count (slices (now (vs .entry)) (now (ts .entry)) (now (es .entry))) (slices (now (vs .exit)) (now (ts .exit)) (now (es .exit))) (now (work .entry)) (now (work .exit)) ⌝ }
+    ensures { λ r. ⌜ Kept n (rest-steps n (a .0) (b .0) (x .e .0) (f .0)) r count (slices (now (vs .entry)) (now (ts .entry)) (now (es .entry)))
+        (slices (now (vs .exit)) (now (ts .exit)) (now (es .exit))) (now (work .entry)) (now (work .exit)) ⌝ }
 {
     let xe = x.e;
     let Made::At(c, n1) = normal_form(vs, ts, es, work, n, count, xe, f) else {
@@ -184,7 +190,8 @@ pub fn reduce(
     f: Row,
 ) -> Made
     requires { ⌜ Asked n count (slices (now vs) (now ts) (now es)) (now work) (p .0) (f .0) ⌝ }
-    ensures { λ r. ⌜ Took n (normal n (p .0) (f .0)) r count (slices (now (vs .entry)) (now (ts .entry)) (now (es .entry))) (slices (now (vs .exit)) (now (ts .exit)) (now (es .exit))) (now (work .entry)) (now (work .exit)) ⌝ }
+    ensures { λ r. ⌜ Took n (normal n (p .0) (f .0)) r count (slices (now (vs .entry)) (now (ts .entry)) (now (es .entry)))
+        (slices (now (vs .exit)) (now (ts .exit)) (now (es .exit))) (now (work .entry)) (now (work .exit)) ⌝ }
 {
     fill(vs, ts, es, work, n, count, f);
     normal_form(vs, ts, es, work, n, count, p, f)

@@ -17,7 +17,8 @@ pub struct Parts {
 
 pub fn split(vs: &[u16], ts: &[u16], es: &[u16], n: u16, count: usize, f: Row, g: Row) -> Parts
     requires { ⌜ InUse count (slices (now vs) (now ts) (now es)) (f .0) (g .0) ⌝ }
-    ensures { λ p. ⌜ Split n (rows-of (slices (now (vs .entry)) (now (ts .entry)) (now (es .entry))) count) (f .0) (g .0) (p .v .0) (p .ft .0) (p .gt .0) (p .fe .0) (p .ge .0) ⌝ }
+    ensures { λ p. ⌜ Split n (rows-of (slices (now (vs .entry)) (now (ts .entry)) (now (es .entry))) count) (f .0) (g .0) (p .v .0) (p .ft .0) (p .gt .0)
+        (p .fe .0) (p .ge .0) ⌝ }
 {
     let a = row_of(vs, ts, es, count, n, f);
     let b = row_of(vs, ts, es, count, n, g);

@@ -37,7 +37,8 @@ pub fn sum(
     g: Row,
 ) -> Made
     requires { ⌜ Pair n count (slices (now vs) (now ts) (now es)) (now work) (f .0) (g .0) ⌝ }
-    ensures { λ r. ⌜ Kept n (sum n (f .0) (g .0)) r count (slices (now (vs .entry)) (now (ts .entry)) (now (es .entry))) (slices (now (vs .exit)) (now (ts .exit)) (now (es .exit))) (now (work .entry)) (now (work .exit)) ⌝ }
+    ensures { λ r. ⌜ Kept n (sum n (f .0) (g .0)) r count (slices (now (vs .entry)) (now (ts .entry)) (now (es .entry)))
+        (slices (now (vs .exit)) (now (ts .exit)) (now (es .exit))) (now (work .entry)) (now (work .exit)) ⌝ }
 {
     if f.0 == 0 {
         return Made::At(g, count);
@@ -72,7 +73,8 @@ fn sum_deep(
 ) -> Made
     requires { ⌜ Pair n count (slices (now vs) (now ts) (now es)) (now work) (f .0) (g .0) ⌝ }
     requires { ⌜ Apart (f .0) (g .0) ⌝ }
-    ensures { λ r. ⌜ Kept n (sum n (f .0) (g .0)) r count (slices (now (vs .entry)) (now (ts .entry)) (now (es .entry))) (slices (now (vs .exit)) (now (ts .exit)) (now (es .exit))) (now (work .entry)) (now (work .exit)) ⌝ }
+    ensures { λ r. ⌜ Kept n (sum n (f .0) (g .0)) r count (slices (now (vs .entry)) (now (ts .entry)) (now (es .entry)))
+        (slices (now (vs .exit)) (now (ts .exit)) (now (es .exit))) (now (work .entry)) (now (work .exit)) ⌝ }
 {
     let p = split(vs, ts, es, n, count, f, g);
     let v = p.v;

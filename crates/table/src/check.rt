@@ -73,7 +73,8 @@ fn parts_fit(vs: &[u16], ts: &[u16], es: &[u16], n: u16, i: usize, x: Node) -> b
 // Whether row i may stand after the i rows before it.
 fn row_fits(vs: &[u16], ts: &[u16], es: &[u16], work: &[u64], n: u16, i: usize) -> bool
     requires { ⌜ RowNext i (slices (now vs) (now ts) (now es)) (now work) ⌝ }
-    ensures { λ r. ⌜ fits n (rows-of (slices (now (vs .entry)) (now (ts .entry)) (now (es .entry))) i) (row-at (slices (now (vs .entry)) (now (ts .entry)) (now (es .entry))) i) ≡ r ⌝ }
+    ensures { λ r. ⌜ fits n (rows-of (slices (now (vs .entry)) (now (ts .entry)) (now (es .entry))) i)
+        (row-at (slices (now (vs .entry)) (now (ts .entry)) (now (es .entry))) i) ≡ r ⌝ }
 {
     let x = node_at(vs, ts, es, i);
     if !parts_fit(vs, ts, es, n, i, x) {
@@ -88,7 +89,8 @@ fn row_fits(vs: &[u16], ts: &[u16], es: &[u16], work: &[u64], n: u16, i: usize) 
 // Enters row i into the index of the rows before it.
 fn enter_row(vs: &[u16], ts: &[u16], es: &[u16], work: &mut [u64], i: usize)
     requires { ⌜ RowNext i (slices (now vs) (now ts) (now es)) (now work) ⌝ }
-    ensures { λ _. ⌜ enter (index-words (length (now (vs .entry))) (length (now (work .entry)))) i (row-at (slices (now (vs .entry)) (now (ts .entry)) (now (es .entry))) i) (now (work .entry)) ≡ now (work .exit) ⌝ }
+    ensures { λ _. ⌜ enter (index-words (length (now (vs .entry))) (length (now (work .entry)))) i
+        (row-at (slices (now (vs .entry)) (now (ts .entry)) (now (es .entry))) i) (now (work .entry)) ≡ now (work .exit) ⌝ }
 {
     let h = index_words(vs.len(), work.len());
     let x = node_at(vs, ts, es, i);

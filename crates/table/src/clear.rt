@@ -50,7 +50,8 @@ pub fn zero_bytes(xs: &mut [u8])
 // Zeros all free rows.
 pub fn free_rows(vs: &mut [u16], ts: &mut [u16], es: &mut [u16], count: usize)
     requires { ⌜ Lent count (slices (now vs) (now ts) (now es)) ⌝ }
-    ensures { λ _. ⌜ slices (now (vs .exit)) (now (ts .exit)) (now (es .exit)) ≡ cleared count (slices (now (vs .entry)) (now (ts .entry)) (now (es .entry))) ⌝ }
+    ensures { λ _. ⌜ slices (now (vs .exit)) (now (ts .exit)) (now (es .exit)) ≡ cleared count
+        (slices (now (vs .entry)) (now (ts .entry)) (now (es .entry))) ⌝ }
 {
     zero_numbers(&mut vs[count..]);
     zero_numbers(&mut ts[count..]);

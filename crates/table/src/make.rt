@@ -22,7 +22,8 @@ pub enum Made {
 // The row x behind the count rows in use.
 fn append(vs: &mut [u16], ts: &mut [u16], es: &mut [u16], count: usize, x: Node) -> Made
     requires { ⌜ Lent count (slices (now vs) (now ts) (now es)) ⌝ }
-    ensures { λ r. ⌜ Taken (append (row-of (x .v .0) (x .t .0) (x .e .0))) r count (slices (now (vs .entry)) (now (ts .entry)) (now (es .entry))) (slices (now (vs .exit)) (now (ts .exit)) (now (es .exit))) ⌝ }
+    ensures { λ r. ⌜ Taken (append (row-of (x .v .0) (x .t .0) (x .e .0))) r count (slices (now (vs .entry)) (now (ts .entry)) (now (es .entry)))
+        (slices (now (vs .exit)) (now (ts .exit)) (now (es .exit))) ⌝ }
 {
     if vs.len() <= count {
         return Made::Full;
@@ -44,7 +45,8 @@ fn add(
 ) -> Made
     requires { ⌜ Indexed count (slices (now vs) (now ts) (now es)) (now work) ⌝ }
     requires { ⌜ find (rows-of (slices (now vs) (now ts) (now es)) count) (row-of (x .v .0) (x .t .0) (x .e .0)) ≡ 0 ⌝ }
-    ensures { λ r. ⌜ Entered (append (row-of (x .v .0) (x .t .0) (x .e .0))) r count (slices (now (vs .entry)) (now (ts .entry)) (now (es .entry))) (slices (now (vs .exit)) (now (ts .exit)) (now (es .exit))) (now (work .entry)) (now (work .exit)) ⌝ }
+    ensures { λ r. ⌜ Entered (append (row-of (x .v .0) (x .t .0) (x .e .0))) r count (slices (now (vs .entry)) (now (ts .entry)) (now (es .entry)))
+        (slices (now (vs .exit)) (now (ts .exit)) (now (es .exit))) (now (work .entry)) (now (work .exit)) ⌝ }
 {
     if vs.len() <= count {
         return Made::Full;
@@ -64,7 +66,8 @@ pub fn make(
     x: Node,
 ) -> Made
     requires { ⌜ Indexed count (slices (now vs) (now ts) (now es)) (now work) ⌝ }
-    ensures { λ r. ⌜ Entered (make (x .v .0) (x .t .0) (x .e .0)) r count (slices (now (vs .entry)) (now (ts .entry)) (now (es .entry))) (slices (now (vs .exit)) (now (ts .exit)) (now (es .exit))) (now (work .entry)) (now (work .exit)) ⌝ }
+    ensures { λ r. ⌜ Entered (make (x .v .0) (x .t .0) (x .e .0)) r count (slices (now (vs .entry)) (now (ts .entry)) (now (es .entry)))
+        (slices (now (vs .exit)) (now (ts .exit)) (now (es .exit))) (now (work .entry)) (now (work .exit)) ⌝ }
 {
     if x.t.0 == 0 {
         let e = x.e;

@@ -84,7 +84,8 @@ pub fn recall(work: &[u64], rows: usize, key: u64) -> Recalled
 // Remembers the result k under the key.
 pub fn remember(work: &mut [u64], rows: usize, key: u64, k: Row)
     requires { ⌜ key < 65536 * 65536 * 4 ⌝ }
-    ensures { λ _. ⌜ Written (index-words rows (length (now (work .entry)))) (reach rows (length (now (work .entry)))) (now (work .entry)) (now (work .exit)) (key * 65536 + k .0) ⌝ }
+    ensures { λ _. ⌜ Written (index-words rows (length (now (work .entry)))) (reach rows (length (now (work .entry)))) (now (work .entry))
+        (now (work .exit)) (key * 65536 + k .0) ⌝ }
 {
     let h = index_words(rows, work.len());
     let m = memory_size(rows, work.len() - h);
