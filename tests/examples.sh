@@ -69,7 +69,7 @@ ties() {
     what "$source does not refuse an empty text with 10" refuses "$program"
 }
 
-library() { rt staticlib mg >"$made/said" 2>&1 || { tail -n 20 "$made/said" && false; }; }
+library() { tests/library >"$made/said" 2>&1 || { tail -n 20 "$made/said" && false; }; }
 what "the library is not built" library
 ties "$made/tie-c" examples/tie.c tests/build-c examples/tie.c "$made/tie-c"
 if [ "$(uname -m)" = x86_64 ]; then
