@@ -87,15 +87,11 @@ struct engine {
     void (*end)(void);
 };
 
-/* PROGRAM FILE RUNS: works up to RUNS times, for about a second at most; prints the verdicts and the best time. */
-static inline void run(int words, char **word, struct engine engine)
+/* Works up to `runs` times, for about a second at most; gives the best time. */
+static inline double best_time(long runs, struct engine engine, const char *text, size_t length, char *verdicts)
 {
-    static char text[MAX_TEXT + 1], verdicts[MAX_VARIABLES + 1];
-    if (words != 3)
-        stop("usage: PROGRAM FILE RUNS");
-    size_t length = read_text(word[1], text);
     double best = 1e30, total = 0;
-    for (long runs = atol(word[2]); runs > 0 && total < 1e6; runs--) {
+    for (; runs > 0 && total < 1e6; runs--) {
         if (engine.begin)
             engine.begin(text);
         double start = microseconds();
@@ -107,6 +103,17 @@ static inline void run(int words, char **word, struct engine engine)
         if (took < best)
             best = took;
     }
+    return best;
+}
+
+/* PROGRAM FILE RUNS: works on the file; prints the verdicts and the best time. */
+static inline void run(int words, char **word, struct engine engine)
+{
+    static char text[MAX_TEXT + 1], verdicts[MAX_VARIABLES + 1];
+    if (words != 3)
+        stop("usage: PROGRAM FILE RUNS");
+    size_t length = read_text(word[1], text);
+    double best = best_time(atol(word[2]), engine, text, length, verdicts);
     printf("verdicts %s\nmicroseconds %.2f\n", verdicts, best);
 }
 

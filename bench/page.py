@@ -3,8 +3,11 @@
 import math
 import re
 
+from operations import PARTS, STEPS
+
 OTHERS = ["BRiAl", "BuDDy", "ABC sat", "ABC cec", "CaDiCaL", "MiniSat", "plain"]
 ROOM = 4096
+LIMIT = 25  # nanoseconds
 
 
 class Row:
@@ -36,15 +39,24 @@ def shown(time, base=None):
     return f"{digits} ({time / base:.1f}×)" if isinstance(base, float) and base > 0 else digits
 
 
-def table(rows, kind, others):
+def joined(parts):
+    return "\n\n".join(part.strip() for part in parts)
+
+
+def lines_of(head, rows):
+    """A table of the page."""
+    line = lambda cells: "| " + " | ".join(map(str, cells)) + " |"
+    return "\n".join([line(head), "|" + "---|" * len(head), *map(line, rows)])
+
+
+def times(rows, kind, others):
     head = ["block", "variables", "gates", "inputs", "rows", "verdict", "Mullagrane"] + others
-    lines = ["| " + " | ".join(head) + " |", "|" + "---|" * len(head)]
+    lines = []
     for row in rows:
         own = row.time("Mullagrane", kind)
         cells = [row.name, row.variables, row.gates, row.inputs, row.rows or "", row.verdict, shown(own) or "not built"]
-        cells += [shown(row.time(other, kind), None if row.full else own) for other in others]
-        lines.append("| " + " | ".join(str(cell) for cell in cells) + " |")
-    return "\n".join(lines)
+        lines.append(cells + [shown(row.time(other, kind), None if row.full else own) for other in others])
+    return lines_of(head, lines)
 
 
 ABOUT = """\
@@ -77,7 +89,101 @@ each of 20 further repetitions adds. The SAT solvers have no such time here.
 """
 
 
-def text(rows, about, options):
+OPERATIONS = """\
+## Operations
+
+An operation is one entry into a written step, also where it ends at once: make (a row is looked for, and appended where it is not there), sum, product,
+normal form. callgrind counted them in the programs that were timed; *worked out* are the sums, products and normal forms that neither end at once nor
+are remembered. Times are the best of all runs that {goes} processes do in a second each, by wall clock; the load average before them was {load:.2f}.
+The limit is that of C++ code: 15 to 25 ns an operation. *Without the fixed cost*: without what the same calls take where there is nothing to do.
+
+The blocks, by `mg_text` and then `mg_circuit` for each output, as in the table before this:
+"""
+
+CALLS = """\
+The calls by themselves, on a table of 8,192 rows that has random polynomials (`bench/calls.c`). *nothing* is the sum of 0 and 0:
+"""
+
+INSTRUCTIONS = """\
+How many instructions an operation takes on the average, and in which part of the library they are. *Checking* is the check of the table at the start of a call, which
+enters its rows into the index. *Remembering* is what the compiler has not put into the steps; what is looked up there counts as theirs. Zeroing is
+left out: it is the C library's, and its instructions say nothing about its time.
+"""
+
+SLOW = """\
+### What is slow
+
+{over}
+
+- **Zeroing.** Every call zeroes the working slice before its work and after it. A circuit without gates takes {empty:.1f} µs, as long as {empty_operations:,.0f}
+  operations of {limit} ns. Of {small}'s time this is {small_share:.0f} %.
+- **Checking.** Every call on a table checks all rows in use and enters them into the index again: {row:.1f} ns a row. The sum of 0 and 0
+  takes {checked:.1f} µs with {rows:,} rows in use.
+- **One output at a time.** `mg_circuit` reads the text and builds the equations of all gates again for every output. Of {many}, with {outputs} outputs,
+  {reading:.0f} % of the instructions are the reading. The circuit program does both once for all outputs.
+- **Handing over.** A step is given four slices, two sizes and its numbers, and gives its answer in memory: the sum of 0 and 0
+  takes {trivial:.0f} instructions in the step alone, besides those of its caller. {ended:.0f} % of the operations above end at once or are remembered.
+"""
+
+
+def step_cells(row):
+    cells = [f"{row.counts.entries(step):,}" for step in STEPS] + [f"{row.operations:,}", f"{row.counts.worked_out():,}", shown(row.time)]
+    return cells + (["", ""] if row.name == "nothing" else [f"{row.each():.1f}", f"{row.each_without():.1f}"])
+
+
+def instruction_cells(row):
+    whole = row.counts.spent()
+    return [f"{whole / row.operations:,.0f}"] + [f"{100 * row.counts.instructions[part] / whole:.0f} %" for part in PARTS]
+
+
+def call_name(row):
+    return f"{row.name}, {row.rows_before():,} rows"
+
+
+def over(rows):
+    """Which operations are over the limit, with and without the fixed cost."""
+    slow = [f"{name} ({row.each():.1f} ns, {row.each_without():.1f} ns without the fixed cost)" for name, row in rows if row.each() > LIMIT]
+    return f"Over {LIMIT} ns an operation: " + ("; ".join(slow) if slow else "none of these") + "."
+
+
+def slow(found, working):
+    many = max(found.blocks, key=lambda row: row.outputs())
+    small = max(found.blocks, key=lambda row: row.fixed / row.time)
+    rows = [row for _, row in working]
+    ended = sum(row.operations - row.counts.worked_out() - row.counts.entries("make") for row in rows)
+    return SLOW.format(
+        over=over(working),
+        empty=found.empty,
+        empty_operations=1000 * found.empty / LIMIT,
+        limit=LIMIT,
+        small=small.name,
+        small_share=100 * small.fixed / small.time,
+        row=1000 * found.row,
+        checked=found.checked.time,
+        rows=found.checked.rows_before(),
+        many=many.name,
+        outputs=many.outputs(),
+        reading=100 * many.counts.instructions["reading"] / many.counts.spent(),
+        trivial=found.bare.counts.instructions["sum"],
+        ended=100 * ended / sum(row.operations for row in rows),
+    )
+
+
+def operations(found):
+    """The section on operations; `found` may be a sentence why there are no counts."""
+    if isinstance(found, str):
+        return f"## Operations\n\nOperations were not counted: {found}."
+    working = [(row.name, row) for row in found.blocks] + [(call_name(row), row) for row in found.calls if row.name != "nothing"]
+    steps = [*STEPS, "operations", "worked out", "µs", "ns an operation", "without the fixed cost"]
+    blocks = [[row.name, row.outputs(), *step_cells(row)] for row in found.blocks]
+    calls = [[row.name, f"{row.rows_before():,}", f"{row.rows_after():,}", *step_cells(row)] for row in found.calls]
+    parts = [OPERATIONS.format(goes=found.goes, load=found.load), lines_of(["block", "outputs", *steps], blocks)]
+    parts += [CALLS, lines_of(["call", "rows in use before", "after", *steps], calls)]
+    parts += [INSTRUCTIONS, lines_of(["block or call", "instructions", *PARTS], [[name, *instruction_cells(row)] for name, row in working])]
+    return joined([*parts, slow(found, working)])
+
+
+def text(rows, about, found, options):
     own = "the circuit program `target/bin/mullagrane`, and in one process the library `libmg.a`, with a table of 4,096 rows."
     if not options.native:
         own = (
@@ -87,8 +193,9 @@ def text(rows, about, options):
     trial = " **A trial: its numbers are no results.**" if options.trial else ""
     parts = ["# Benchmarks", "Made by `bench/run`." + trial, "\n".join(f"- {line}" for line in about)]
     parts += ["![Rows and times against the number of variables](benchmarks.svg)", ABOUT.format(runs=options.runs, own=own)]
-    parts += [WHOLE, table(rows, "whole", OTHERS), INSIDE, table(rows, "inside", ["BRiAl", "BuDDy", "ABC sat", "ABC cec", "plain"])]
-    return "\n\n".join(part.strip() for part in parts) + "\n"
+    parts += [WHOLE, times(rows, "whole", OTHERS), INSIDE, times(rows, "inside", ["BRiAl", "BuDDy", "ABC sat", "ABC cec", "plain"])]
+    parts += [operations(found)]
+    return joined(parts) + "\n"
 
 
 # --- the plot -------------------------------------------------------------------------------------------------------------------
