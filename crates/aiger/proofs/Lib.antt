@@ -4,12 +4,13 @@ pub mod WholeNet
 pub mod InSlices
 pub mod Valued
 pub mod Unique
--- Laws that only this crate's proofs cite, and the printed run
+-- For the crate nets: the laws of its reading
+pub mod Bools
+pub mod AtPosition
+pub mod OnLine
+pub mod Marking
+pub mod LiteralLines
+pub mod GateLines
+pub mod KnownOutputs
+-- The printed run
 mod Printed
-mod Bools
-mod AtPosition
-mod OnLine
-mod Marking
-mod LiteralLines
-mod GateLines
-mod KnownOutputs

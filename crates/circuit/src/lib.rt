@@ -4,11 +4,11 @@ pub mod pattern;
 
 use crate::output::output;
 use crate::pattern::write_pattern;
-use aiger::for_circuit::Lit;
-use aiger::for_circuit::NetRead;
-use aiger::for_circuit::Sizes;
-use aiger::for_circuit::number_of;
-use aiger::for_circuit::read_net;
+use aiger::header::Sizes;
+use aiger::lines::Lit;
+use aiger::net::NetRead;
+use nets::for_circuit::number_of;
+use nets::for_circuit::read_net;
 use table::check::Table;
 use table::check::check;
 use table::clear::free_rows;

@@ -1,5 +1,5 @@
 // An output's normal form by the system of all gates, from an empty table.
-use aiger::for_circuit::Lit;
+use aiger::lines::Lit;
 use gates::system::build;
 use gates::system::literal;
 use reduction::reduce;

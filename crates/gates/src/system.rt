@@ -1,5 +1,5 @@
 // For the crate above: the written steps of a literal and of a gate, and the system of all gates.
-use aiger::for_circuit::Lit;
+use aiger::lines::Lit;
 use products::written::product;
 use table::Row;
 use table::Var;

@@ -225,6 +225,6 @@ pub extern "C" fn mg_text(text: &[u8], inputs: &mut usize, outputs: &mut usize) 
         (λ r. r ≡ textCall (now (text .entry)))
         k (now (inputs .entry), now (outputs .entry)) (now (inputs .exit), now (outputs .exit)) ⌝ }
 {
-    let r = aiger::text(text);
+    let r = nets::text(text);
     show::counts(r, inputs, outputs)
 }

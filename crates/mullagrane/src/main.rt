@@ -1,10 +1,10 @@
 // The program: reads an AIGER text from standard input and prints a verdict for every output, in a table of 4,096 rows. The system is built once.
-use aiger::for_circuit::NetRead;
-use aiger::for_circuit::Sizes;
-use aiger::for_circuit::number_of;
-use aiger::for_circuit::read_net;
+use aiger::header::Sizes;
+use aiger::net::NetRead;
 use libc::STDIN_FILENO;
 use libc::STDOUT_FILENO;
+use nets::for_circuit::number_of;
+use nets::for_circuit::read_net;
 use outputs::system;
 use printing::print;
 use table::make::Made;

@@ -1,7 +1,7 @@
 // For the program: every output of a circuit is judged from one system, which is built once. Nothing here is a call of the scope; each verdict is the circuit
 // call's, from an empty table of the same size.
-use aiger::for_circuit::Lit;
-use aiger::for_circuit::Sizes;
+use aiger::header::Sizes;
+use aiger::lines::Lit;
 use circuit::Judged;
 use circuit::pattern::write_pattern;
 use gates::system::build;

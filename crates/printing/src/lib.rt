@@ -2,7 +2,7 @@
 mod line;
 
 use crate::line::block;
-use aiger::for_circuit::Sizes;
+use aiger::header::Sizes;
 use circuit::Judged;
 use outputs::judge;
 use table::make::Made;

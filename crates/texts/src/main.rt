@@ -68,11 +68,11 @@ fn one_text(n: usize) {
     let mut buffer = io::large_buffer();
     if n <= 65536 {
         let got = io::read_full(STDIN_FILENO, &mut buffer[..n]);
-        print(aiger::text(&buffer[..got]));
+        print(nets::text(&buffer[..got]));
     } else {
         io::read_full(STDIN_FILENO, &mut buffer);
         skip(n - 65536);
-        print(aiger::text(&buffer));
+        print(nets::text(&buffer));
     }
 }
 

@@ -7,8 +7,8 @@ use Rattle.circuit.proofs.circuit_read.Statement.{statement}
 use Rattle.circuit.proofs.circuit_read.Tie as tie
 use Rattle.circuit.proofs.circuit_read.Reads as reads
 use Rattle.circuit.proofs.circuit_read.Lts as lts
-use Rattle.aiger.proofs.for_circuit.number_of.Reads as number-of-reads
-use Rattle.aiger.proofs.for_circuit.read_net.Reads as read-net-reads
+use Rattle.nets.proofs.for_circuit.number_of.Reads as number-of-reads
+use Rattle.nets.proofs.for_circuit.read_net.Reads as read-net-reads
 use Rattle.circuit.proofs.asked.Reads as asked-reads
 use Rattle.circuit.proofs.lengths_fine.Reads as lengths-fine-reads
 

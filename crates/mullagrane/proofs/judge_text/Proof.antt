@@ -7,8 +7,8 @@ use Rattle.mullagrane.proofs.judge_text.Statement.{statement}
 use Rattle.mullagrane.proofs.judge_text.Tie as tie
 use Rattle.mullagrane.proofs.judge_text.Reads as reads
 use Rattle.mullagrane.proofs.judge_text.Lts as lts
-use Rattle.aiger.proofs.for_circuit.number_of.Reads as number-of-reads
-use Rattle.aiger.proofs.for_circuit.read_net.Reads as read-net-reads
+use Rattle.nets.proofs.for_circuit.number_of.Reads as number-of-reads
+use Rattle.nets.proofs.for_circuit.read_net.Reads as read-net-reads
 use Rattle.mullagrane.proofs.judge_net.Reads as judge-net-reads
 use Rattle.mullagrane.proofs.print_refused.Reads as print-refused-reads
 
