@@ -12,17 +12,17 @@ use Rattle.steps.specs.One.{one}
 use Rattle.steps.specs.Sound.{sound}
 use Rattle.steps.specs.Table.{Slices, slices, rows-of, most-rows}
 use Rattle.table.specs.declared.Row.{Row}
-use Rattle.table.specs.declared.check.Table.{Table}
-use Rattle.table.specs.declared.check.Table.the-variants.{Fine, OutOfRange, Unsound}
+use Rattle.checks.specs.declared.check.Table.{Table}
+use Rattle.checks.specs.declared.check.Table.the-variants.{Fine, OutOfRange, Unsound}
 use Rattle.table.specs.declared.make.Made.{Made}
 use Rattle.table.specs.declared.make.Made.the-variants.{At, Full}
 use Rattle.table.specs.Calls.{in-range, cleared}
-use Rattle.table.specs.Checks.{Checked}
+use Rattle.checks.specs.Checks.{Checked}
 use Rattle.table.specs.Lent.{room, Lent}
 use Rattle.steps.specs.Rows.{none, next}
 use Rattle.steps.specs.Steps.{Answer as StepsAnswer, answer}
 use Rattle.steps.proofs.Table.{rows-of-next}
-use Rattle.table.proofs.Endings.{taken-lends, fine-live}
+use Rattle.checks.proofs.Endings.{taken-lends, fine-live}
 use Rattle.table.proofs.Takes.{taken-rows, taken-lent}
 use Rattle.reduction.specs.Inner.{Took}
 use Rattle.aiger.specs.Answers.{Slices as NetSlices, Lent as NetLent, gatesOf, sizesOf, netIn, NetGot, Limited, numberOfRefusal}

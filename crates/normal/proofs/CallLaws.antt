@@ -19,11 +19,11 @@ use Rattle.table.specs.declared.Row.{Row}
 use Rattle.table.specs.declared.Answer.{Answer}
 use Rattle.table.specs.declared.Answer.the-variants.{Refused}
 use Rattle.table.specs.declared.make.Made.{Made}
-use Rattle.table.specs.declared.check.Table.{Table}
-use Rattle.table.specs.declared.check.Table.the-variants.{Fine, OutOfRange, Unsound}
+use Rattle.checks.specs.declared.check.Table.{Table}
+use Rattle.checks.specs.declared.check.Table.the-variants.{Fine, OutOfRange, Unsound}
 use Rattle.table.specs.Lent.{Lent, Numbered}
 use Rattle.table.specs.Inner.{Taken}
-use Rattle.table.specs.Checks.{Checked}
+use Rattle.checks.specs.Checks.{Checked}
 use Rattle.table.specs.Calls.{unless_then_else_, in-range, Left, left, refuse, take-steps, checked, finished}
 use Rattle.sums.specs.Calls.{Does}
 use Rattle.sums.proofs.CallEnds.{does-made, does-range, does-unsound, does-fine, does-unique}

@@ -1,12 +1,12 @@
 // The calls equation and normal form.
+use checks::check::Table;
+use checks::check::check;
+use checks::clear::zero_work;
+use checks::finish::finish;
 use reduction::reduce;
 use table::Answer;
 use table::Row;
 use table::Var;
-use table::check::Table;
-use table::check::check;
-use table::clear::zero_work;
-use table::finish::finish;
 use table::make::make;
 use table::rows::Node;
 use table::rows::row_of;

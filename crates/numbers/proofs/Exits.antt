@@ -22,16 +22,16 @@ use Rattle.numbers.specs.declared.Sought.the-variants.{One, NoOne}
 use Rattle.numbers.specs.declared.Valued.{Valued}
 use Rattle.numbers.specs.declared.Valued.the-variants.{Value, NoValue}
 use Rattle.table.specs.Calls.{in-range, in-use, column, laid, freed, cleared, Left, left, refuse, end-in, take-steps, checked, finished}
-use Rattle.table.specs.Checks.{Checked}
-use Rattle.table.proofs.Endings.{out-of-range, not-sound, all-fine}
+use Rattle.checks.specs.Checks.{Checked}
+use Rattle.checks.proofs.Endings.{out-of-range, not-sound, all-fine}
 use Rattle.table.specs.Inner.{said, Taken}
 use Rattle.table.specs.Lent.{room, Lent}
 use Rattle.table.specs.Memory.{Live}
 use Rattle.table.specs.declared.Answer.{Answer}
 use Rattle.table.specs.declared.Answer.the-variants.{Made as Answer-made, Refused}
 use Rattle.table.specs.declared.Row.{Row}
-use Rattle.table.specs.declared.check.Table.{Table}
-use Rattle.table.specs.declared.check.Table.the-variants.{Fine, OutOfRange, Unsound}
+use Rattle.checks.specs.declared.check.Table.{Table}
+use Rattle.checks.specs.declared.check.Table.the-variants.{Fine, OutOfRange, Unsound}
 use Rattle.table.specs.declared.make.Made.{Made}
 use Rattle.table.specs.declared.make.Made.the-variants.{At, Full}
 use Rattle.steps.specs.One.{one}

@@ -5,13 +5,13 @@ pub mod seek;
 
 use crate::evaluate::value_at;
 use crate::seek::one_of;
+use checks::check::Table;
+use checks::check::check;
+use checks::clear::zero_work;
+use checks::finish::finish;
 use table::Answer;
 use table::Row;
 use table::Var;
-use table::check::Table;
-use table::check::check;
-use table::clear::zero_work;
-use table::finish::finish;
 use table::make::make;
 use table::rows::Node;
 ghost use mathlib.Core.Path.{_≡_};

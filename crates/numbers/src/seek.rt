@@ -1,6 +1,6 @@
 // For the crates above: finding a one. At each row the else-part is followed unless it is 0.
+use checks::clear::zero_bytes;
 use table::Row;
-use table::clear::zero_bytes;
 use table::rows::node_at;
 ghost use mathlib.Core.Path.{_≡_};
 ghost use Prim.Native.Nat.{_+_, _<_};

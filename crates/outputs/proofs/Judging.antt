@@ -15,16 +15,16 @@ use Rattle.steps.specs.Table.{Slices, rows-of}
 use Rattle.steps.proofs.Sound.{true-sound}
 use Rattle.steps.proofs.Table.{rows-of-next}
 use Rattle.table.specs.declared.Row.{Row}
-use Rattle.table.specs.declared.check.Table.{Table}
-use Rattle.table.specs.declared.check.Table.the-variants.{Fine, OutOfRange, Unsound}
+use Rattle.checks.specs.declared.check.Table.{Table}
+use Rattle.checks.specs.declared.check.Table.the-variants.{Fine, OutOfRange, Unsound}
 use Rattle.table.specs.declared.make.Made.{Made}
 use Rattle.table.specs.declared.make.Made.the-variants.{At, Full}
 use Rattle.table.specs.Calls.{in-range}
-use Rattle.table.specs.Checks.{Checked}
+use Rattle.checks.specs.Checks.{Checked}
 use Rattle.table.specs.Inner.{Taken, Kept}
 use Rattle.table.specs.Lent.{room, Lent}
 use Rattle.table.specs.Memory.{Live}
-use Rattle.table.proofs.Endings.{taken-lends, fine-live}
+use Rattle.checks.proofs.Endings.{taken-lends, fine-live}
 use Rattle.table.proofs.Takes.{taken-rows, taken-full}
 use Rattle.leads.specs.Inner.{System}
 use Rattle.aiger.specs.Answers.{Slices as NetSlices, gatesOf, sizesOf, netIn}

@@ -2,14 +2,14 @@
 // call's, from an empty table of the same size.
 use aiger::header::Sizes;
 use aiger::lines::Lit;
+use checks::check::Table;
+use checks::check::check;
 use circuit::Judged;
 use circuit::pattern::write_pattern;
 use gates::system::build;
 use gates::system::literal;
 use reduction::reduce;
 use table::Row;
-use table::check::Table;
-use table::check::check;
 use table::make::Made;
 ghost use mathlib.Core.Path.{_≡_};
 ghost use lib.ListN.{length, take};

@@ -1,12 +1,12 @@
 // The call product, and the written steps of the product for the crates above.
 pub mod written;
 
+use checks::check::Table;
+use checks::check::check;
+use checks::clear::zero_work;
+use checks::finish::finish;
 use table::Answer;
 use table::Row;
-use table::check::Table;
-use table::check::check;
-use table::clear::zero_work;
-use table::finish::finish;
 ghost use mathlib.Core.Path.{_≡_};
 ghost use mathlib.Core.Bool.{_&&_};
 ghost use Prim.Native.Nat.{_≤_};

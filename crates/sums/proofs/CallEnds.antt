@@ -10,15 +10,15 @@ use Rattle.table.specs.declared.Answer.{Answer}
 use Rattle.table.specs.declared.Answer.the-variants.{Made as Answer-made, Refused}
 use Rattle.table.specs.declared.make.Made.{Made}
 use Rattle.table.specs.declared.make.Made.the-variants.{At, Full}
-use Rattle.table.specs.declared.check.Table.{Table}
-use Rattle.table.specs.declared.check.Table.the-variants.{Fine, OutOfRange, Unsound}
+use Rattle.checks.specs.declared.check.Table.{Table}
+use Rattle.checks.specs.declared.check.Table.the-variants.{Fine, OutOfRange, Unsound}
 use Rattle.table.specs.Lent.{Lent}
 use Rattle.table.specs.Inner.{Taken}
-use Rattle.table.specs.Checks.{Checked}
+use Rattle.checks.specs.Checks.{Checked}
 use Rattle.table.specs.Calls.{in-range, Left, left, refuse, take-steps, checked, finished}
 use Rattle.table.proofs.Takes.{taken-rows}
-use Rattle.table.proofs.Checking.{in-range-vars}
-use Rattle.table.proofs.Endings.{taken-ends, call-range, call-unsound, call-fine}
+use Rattle.checks.proofs.Checking.{in-range-vars}
+use Rattle.checks.proofs.Endings.{taken-ends, call-range, call-unsound, call-fine}
 use Rattle.sums.specs.Calls.{IfMade, Does}
 
 module _ (Meant : ℕ → ℕ → Slices → Type 0) where

@@ -15,12 +15,12 @@ use Rattle.steps.proofs.Theorems.{value-of-sum}
 use Rattle.table.specs.declared.Answer.{Answer}
 use Rattle.table.specs.declared.Answer.the-variants.{Refused}
 use Rattle.table.specs.declared.make.Made.{Made}
-use Rattle.table.specs.declared.check.Table.{Table}
-use Rattle.table.specs.declared.check.Table.the-variants.{Fine, OutOfRange, Unsound}
+use Rattle.checks.specs.declared.check.Table.{Table}
+use Rattle.checks.specs.declared.check.Table.the-variants.{Fine, OutOfRange, Unsound}
 use Rattle.table.specs.Lent.{Lent}
 use Rattle.table.specs.Memory.{Live}
 use Rattle.table.specs.Inner.{Taken}
-use Rattle.table.specs.Checks.{Checked}
+use Rattle.checks.specs.Checks.{Checked}
 use Rattle.table.specs.Calls.{in-range, in-use, Left, left, refuse, take-steps, checked, finished}
 use Rattle.sums.specs.Calls.{pair-checked, pair-call, Means, Answered}
 use Rattle.sums.proofs.CallEnds.{does-made, does-range, does-unsound, does-fine}

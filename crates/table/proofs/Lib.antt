@@ -4,6 +4,3 @@ pub mod Walks
 pub mod Takes
 pub mod Enters
 pub mod Words
-pub mod Zeros
-pub mod Checking
-pub mod Endings

@@ -3,4 +3,3 @@ pub mod Index
 pub mod Memory
 pub mod Inner
 pub mod Calls
-pub mod Checks

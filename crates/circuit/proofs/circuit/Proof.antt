@@ -1,11 +1,11 @@
-use Rattle.table.proofs.Endings.{zeros-left}
+use Rattle.checks.proofs.Endings.{zeros-left}
 use borrow.Author.Needs.{needs}
 use Rattle.circuit.proofs.circuit.Statement.{statement}
 use Rattle.circuit.proofs.circuit.Tie as tie
 use Rattle.circuit.proofs.circuit.Reads as reads
 use Rattle.circuit.proofs.circuit.Lts as lts
 use Rattle.circuit.proofs.circuit_read.Reads as circuit-read-reads
-use Rattle.table.proofs.clear.zero_work.Reads as zero-work-reads
+use Rattle.checks.proofs.clear.zero_work.Reads as zero-work-reads
 
 circuit-read-requires : tie.Need-circuit-read-requires
 circuit-read-requires c κs = search needs

@@ -5,7 +5,7 @@ use Rattle.circuit.proofs.verdict.Tie as tie
 use Rattle.circuit.proofs.verdict.Reads as reads
 use Rattle.circuit.proofs.verdict.Lts as lts
 use Rattle.circuit.proofs.verdict_ready.Reads as verdict-ready-reads
-use Rattle.table.proofs.check.check.Reads as check-reads
+use Rattle.checks.proofs.check.check.Reads as check-reads
 
 cast-check : tie.Need-cast-check
 cast-check c = search needs

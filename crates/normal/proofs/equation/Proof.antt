@@ -1,12 +1,12 @@
 use borrow.Author.Needs.{needs}
-use Rattle.table.proofs.Endings.{zeros-left}
+use Rattle.checks.proofs.Endings.{zeros-left}
 use borrow.Author.Needs.{needs}
 use Rattle.normal.proofs.equation.Statement.{statement}
 use Rattle.normal.proofs.equation.Tie as tie
 use Rattle.normal.proofs.equation.Reads as reads
 use Rattle.normal.proofs.equation.Lts as lts
 use Rattle.normal.proofs.equation_checked.Reads as equation-checked-reads
-use Rattle.table.proofs.clear.zero_work.Reads as zero-work-reads
+use Rattle.checks.proofs.clear.zero_work.Reads as zero-work-reads
 
 equation-checked-requires : tie.Need-equation-checked-requires
 equation-checked-requires c κs = search needs

@@ -1,5 +1,5 @@
 use borrow.Author.Needs.{needs}
-use Rattle.table.proofs.Endings.{fine-live}
+use Rattle.checks.proofs.Endings.{fine-live}
 use Rattle.sums.proofs.CallEnds.{fine-vars}
 use Rattle.normal.proofs.CallLaws.{equation-range, equation-unsound, equation-fine}
 use borrow.Author.Needs.{needs}
@@ -8,7 +8,7 @@ use Rattle.normal.proofs.equation_checked.Tie as tie
 use Rattle.normal.proofs.equation_checked.Reads as reads
 use Rattle.normal.proofs.equation_checked.Lts as lts
 use Rattle.normal.proofs.equation_ready.Reads as equation-ready-reads
-use Rattle.table.proofs.check.check.Reads as check-reads
+use Rattle.checks.proofs.check.check.Reads as check-reads
 
 check-requires : tie.Need-check-requires
 check-requires c κs = search needs

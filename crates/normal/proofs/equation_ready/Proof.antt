@@ -1,14 +1,14 @@
 use mathlib.Core.Path.{_∙_}
 use native.Mathlib.Omega.{arith}
 use borrow.Author.Needs.{needs}
-use Rattle.table.proofs.Endings.{taken-lends}
+use Rattle.checks.proofs.Endings.{taken-lends}
 use Rattle.normal.proofs.CallLaws.{number-out, system-out, system-0, lead-out, system-behind, tail-behind, equation-done}
 use borrow.Author.Needs.{needs}
 use Rattle.normal.proofs.equation_ready.Statement.{statement}
 use Rattle.normal.proofs.equation_ready.Tie as tie
 use Rattle.normal.proofs.equation_ready.Reads as reads
 use Rattle.normal.proofs.equation_ready.Lts as lts
-use Rattle.table.proofs.finish.finish.Reads as finish-reads
+use Rattle.checks.proofs.finish.finish.Reads as finish-reads
 use Rattle.table.proofs.make.make.Reads as make-reads
 use Rattle.table.proofs.rows.row_of.Reads as row-of-reads
 

@@ -1,12 +1,12 @@
 use borrow.Author.Needs.{needs}
-use Rattle.table.proofs.Endings.{zeros-left}
+use Rattle.checks.proofs.Endings.{zeros-left}
 use borrow.Author.Needs.{needs}
 use Rattle.normal.proofs.normal_form.Statement.{statement}
 use Rattle.normal.proofs.normal_form.Tie as tie
 use Rattle.normal.proofs.normal_form.Reads as reads
 use Rattle.normal.proofs.normal_form.Lts as lts
 use Rattle.normal.proofs.normal_checked.Reads as normal-checked-reads
-use Rattle.table.proofs.clear.zero_work.Reads as zero-work-reads
+use Rattle.checks.proofs.clear.zero_work.Reads as zero-work-reads
 
 normal-checked-requires : tie.Need-normal-checked-requires
 normal-checked-requires c κs = search needs

@@ -1,7 +1,7 @@
 use mathlib.Core.Path.{_∙_}
 use native.Mathlib.Omega.{arith}
 use borrow.Author.Needs.{needs}
-use Rattle.table.proofs.Endings.{taken-lends}
+use Rattle.checks.proofs.Endings.{taken-lends}
 use Rattle.normal.proofs.CallLaws.{number-out, system-out, system-0, normal-done}
 use borrow.Author.Needs.{needs}
 use Rattle.normal.proofs.normal_ready.Statement.{statement}
@@ -9,7 +9,7 @@ use Rattle.normal.proofs.normal_ready.Tie as tie
 use Rattle.normal.proofs.normal_ready.Reads as reads
 use Rattle.normal.proofs.normal_ready.Lts as lts
 use Rattle.reduction.proofs.reduce.Reads as reduce-reads
-use Rattle.table.proofs.finish.finish.Reads as finish-reads
+use Rattle.checks.proofs.finish.finish.Reads as finish-reads
 
 add-if1 : tie.Need-add-if1
 add-if1 c = search needs

@@ -1,4 +1,4 @@
-use Rattle.table.proofs.Endings.{zeros-left}
+use Rattle.checks.proofs.Endings.{zeros-left}
 use Rattle.numbers.proofs.Meanings.{one-call-means}
 use borrow.Author.Needs.{needs}
 use Rattle.numbers.proofs.one.Statement.{statement}
@@ -6,7 +6,7 @@ use Rattle.numbers.proofs.one.Tie as tie
 use Rattle.numbers.proofs.one.Reads as reads
 use Rattle.numbers.proofs.one.Lts as lts
 use Rattle.numbers.proofs.one_checked.Reads as one-checked-reads
-use Rattle.table.proofs.clear.zero_work.Reads as zero-work-reads
+use Rattle.checks.proofs.clear.zero_work.Reads as zero-work-reads
 
 one-checked-requires : tie.Need-one-checked-requires
 one-checked-requires c κs = search needs

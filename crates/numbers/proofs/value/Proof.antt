@@ -1,11 +1,11 @@
-use Rattle.table.proofs.Endings.{zeros-left}
+use Rattle.checks.proofs.Endings.{zeros-left}
 use borrow.Author.Needs.{needs}
 use Rattle.numbers.proofs.value.Statement.{statement}
 use Rattle.numbers.proofs.value.Tie as tie
 use Rattle.numbers.proofs.value.Reads as reads
 use Rattle.numbers.proofs.value.Lts as lts
 use Rattle.numbers.proofs.value_checked.Reads as value-checked-reads
-use Rattle.table.proofs.clear.zero_work.Reads as zero-work-reads
+use Rattle.checks.proofs.clear.zero_work.Reads as zero-work-reads
 
 value-checked-requires : tie.Need-value-checked-requires
 value-checked-requires c κs = search needs

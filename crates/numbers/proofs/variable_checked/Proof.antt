@@ -1,4 +1,4 @@
-use Rattle.table.proofs.Endings.{call-range, call-unsound, call-fine, fine-live}
+use Rattle.checks.proofs.Endings.{call-range, call-unsound, call-fine, fine-live}
 use Rattle.numbers.proofs.Exits.{variable-is}
 use borrow.Author.Needs.{needs}
 use Rattle.numbers.proofs.variable_checked.Statement.{statement}
@@ -6,7 +6,7 @@ use Rattle.numbers.proofs.variable_checked.Tie as tie
 use Rattle.numbers.proofs.variable_checked.Reads as reads
 use Rattle.numbers.proofs.variable_checked.Lts as lts
 use Rattle.numbers.proofs.variable_ready.Reads as variable-ready-reads
-use Rattle.table.proofs.check.check.Reads as check-reads
+use Rattle.checks.proofs.check.check.Reads as check-reads
 
 check-requires : tie.Need-check-requires
 check-requires c κs = search needs

@@ -1,12 +1,12 @@
 use mathlib.Core.Path.{_≡_, refl, sym, ap, _∙_}
 use borrow.Author.Tests.{lt-ltb, le-ltb}
-use Rattle.table.proofs.Endings.{taken-ends, taken-lends}
+use Rattle.checks.proofs.Endings.{taken-ends, taken-lends}
 use borrow.Author.Needs.{needs}
 use Rattle.numbers.proofs.variable_ready.Statement.{statement}
 use Rattle.numbers.proofs.variable_ready.Tie as tie
 use Rattle.numbers.proofs.variable_ready.Reads as reads
 use Rattle.numbers.proofs.variable_ready.Lts as lts
-use Rattle.table.proofs.finish.finish.Reads as finish-reads
+use Rattle.checks.proofs.finish.finish.Reads as finish-reads
 use Rattle.table.proofs.make.make.Reads as make-reads
 
 cast-if1 : tie.Need-cast-if1

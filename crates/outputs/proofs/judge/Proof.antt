@@ -1,6 +1,6 @@
 use mathlib.Core.Path.{refl}
 use borrow.Author.Needs.{needs}
-use Rattle.table.proofs.Endings.{fine-live}
+use Rattle.checks.proofs.Endings.{fine-live}
 use Rattle.outputs.proofs.Judging.{not-out-of-range, not-unsound, judge-few, judge-lent, judge-sound, output-there, from-asked, judged-as}
 use borrow.Author.Needs.{needs}
 use Rattle.outputs.proofs.judge.Statement.{statement}
@@ -8,7 +8,7 @@ use Rattle.outputs.proofs.judge.Tie as tie
 use Rattle.outputs.proofs.judge.Reads as reads
 use Rattle.outputs.proofs.judge.Lts as lts
 use Rattle.outputs.proofs.judge_from.Reads as judge-from-reads
-use Rattle.table.proofs.check.check.Reads as check-reads
+use Rattle.checks.proofs.check.check.Reads as check-reads
 
 cast-check : tie.Need-cast-check
 cast-check c = search needs

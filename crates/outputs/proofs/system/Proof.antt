@@ -1,5 +1,5 @@
 use borrow.Author.Needs.{needs}
-use Rattle.table.proofs.Endings.{fine-live}
+use Rattle.checks.proofs.Endings.{fine-live}
 use Rattle.outputs.proofs.Judging.{vars-few, empty-sound, not-out-of-range, not-unsound}
 use borrow.Author.Needs.{needs}
 use Rattle.outputs.proofs.system.Statement.{statement}
@@ -7,7 +7,7 @@ use Rattle.outputs.proofs.system.Tie as tie
 use Rattle.outputs.proofs.system.Reads as reads
 use Rattle.outputs.proofs.system.Lts as lts
 use Rattle.outputs.proofs.system_ready.Reads as system-ready-reads
-use Rattle.table.proofs.check.check.Reads as check-reads
+use Rattle.checks.proofs.check.check.Reads as check-reads
 
 cast-check : tie.Need-cast-check
 cast-check c = search needs

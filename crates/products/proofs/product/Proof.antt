@@ -1,11 +1,11 @@
-use Rattle.table.proofs.Endings.{zeros-left}
+use Rattle.checks.proofs.Endings.{zeros-left}
 use borrow.Author.Needs.{needs}
 use Rattle.products.proofs.product.Statement.{statement}
 use Rattle.products.proofs.product.Tie as tie
 use Rattle.products.proofs.product.Reads as reads
 use Rattle.products.proofs.product.Lts as lts
 use Rattle.products.proofs.product_checked.Reads as product-checked-reads
-use Rattle.table.proofs.clear.zero_work.Reads as zero-work-reads
+use Rattle.checks.proofs.clear.zero_work.Reads as zero-work-reads
 
 product-checked-requires : tie.Need-product-checked-requires
 product-checked-requires c κs = search needs

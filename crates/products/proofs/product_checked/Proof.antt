@@ -1,5 +1,5 @@
 use mathlib.Core.Bool.{_&&_}
-use Rattle.table.proofs.Endings.{fine-live}
+use Rattle.checks.proofs.Endings.{fine-live}
 use Rattle.sums.proofs.PairCalls.{pair-range, pair-unsound, pair-fine}
 use Rattle.sums.proofs.CallEnds.{fine-vars}
 use borrow.Author.Needs.{needs}
@@ -8,7 +8,7 @@ use Rattle.products.proofs.product_checked.Tie as tie
 use Rattle.products.proofs.product_checked.Reads as reads
 use Rattle.products.proofs.product_checked.Lts as lts
 use Rattle.products.proofs.product_ready.Reads as product-ready-reads
-use Rattle.table.proofs.check.check.Reads as check-reads
+use Rattle.checks.proofs.check.check.Reads as check-reads
 
 check-requires : tie.Need-check-requires
 check-requires c κs = search needs

@@ -1,7 +1,7 @@
 use mathlib.Core.Bool.{_&&_}
 use Rattle.steps.specs.Steps.{product}
 use native.Mathlib.Omega.{arith}
-use Rattle.table.proofs.Endings.{taken-lends}
+use Rattle.checks.proofs.Endings.{taken-lends}
 use Rattle.sums.proofs.PairCalls.{left-out, right-out, pair-done}
 use Rattle.products.proofs.Parts.{product-law}
 use borrow.Author.Needs.{needs}
@@ -10,7 +10,7 @@ use Rattle.products.proofs.product_ready.Tie as tie
 use Rattle.products.proofs.product_ready.Reads as reads
 use Rattle.products.proofs.product_ready.Lts as lts
 use Rattle.products.proofs.written.product.Reads as product-reads
-use Rattle.table.proofs.finish.finish.Reads as finish-reads
+use Rattle.checks.proofs.finish.finish.Reads as finish-reads
 
 add-if1 : tie.Need-add-if1
 add-if1 c = search needs

@@ -1,11 +1,11 @@
-use Rattle.table.proofs.Endings.{zeros-left}
+use Rattle.checks.proofs.Endings.{zeros-left}
 use borrow.Author.Needs.{needs}
 use Rattle.sums.proofs.sum.Statement.{statement}
 use Rattle.sums.proofs.sum.Tie as tie
 use Rattle.sums.proofs.sum.Reads as reads
 use Rattle.sums.proofs.sum.Lts as lts
 use Rattle.sums.proofs.sum_checked.Reads as sum-checked-reads
-use Rattle.table.proofs.clear.zero_work.Reads as zero-work-reads
+use Rattle.checks.proofs.clear.zero_work.Reads as zero-work-reads
 
 sum-checked-requires : tie.Need-sum-checked-requires
 sum-checked-requires c κs = search needs

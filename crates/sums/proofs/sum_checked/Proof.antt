@@ -1,5 +1,5 @@
 use mathlib.Core.Bool.{xor}
-use Rattle.table.proofs.Endings.{fine-live}
+use Rattle.checks.proofs.Endings.{fine-live}
 use Rattle.sums.proofs.PairCalls.{pair-range, pair-unsound, pair-fine}
 use Rattle.sums.proofs.CallEnds.{fine-vars}
 use borrow.Author.Needs.{needs}
@@ -8,7 +8,7 @@ use Rattle.sums.proofs.sum_checked.Tie as tie
 use Rattle.sums.proofs.sum_checked.Reads as reads
 use Rattle.sums.proofs.sum_checked.Lts as lts
 use Rattle.sums.proofs.sum_ready.Reads as sum-ready-reads
-use Rattle.table.proofs.check.check.Reads as check-reads
+use Rattle.checks.proofs.check.check.Reads as check-reads
 
 check-requires : tie.Need-check-requires
 check-requires c κs = search needs

@@ -1,7 +1,7 @@
 use mathlib.Core.Bool.{xor}
 use Rattle.steps.specs.Steps.{sum}
 use native.Mathlib.Omega.{arith}
-use Rattle.table.proofs.Endings.{taken-lends}
+use Rattle.checks.proofs.Endings.{taken-lends}
 use Rattle.sums.proofs.PairCalls.{left-out, right-out, pair-done, sum-law}
 use borrow.Author.Needs.{needs}
 use Rattle.sums.proofs.sum_ready.Statement.{statement}
@@ -9,7 +9,7 @@ use Rattle.sums.proofs.sum_ready.Tie as tie
 use Rattle.sums.proofs.sum_ready.Reads as reads
 use Rattle.sums.proofs.sum_ready.Lts as lts
 use Rattle.sums.proofs.written.sum.Reads as sum-reads
-use Rattle.table.proofs.finish.finish.Reads as finish-reads
+use Rattle.checks.proofs.finish.finish.Reads as finish-reads
 
 add-if1 : tie.Need-add-if1
 add-if1 c = search needs

@@ -7,7 +7,7 @@ use Rattle.numbers.proofs.seek.one_of.Tie as tie
 use Rattle.numbers.proofs.seek.one_of.Reads as reads
 use Rattle.numbers.proofs.seek.one_of.Lts as lts
 use Rattle.numbers.proofs.seek.follow.Reads as follow-reads
-use Rattle.table.proofs.clear.zero_bytes.Reads as zero-bytes-reads
+use Rattle.checks.proofs.clear.zero_bytes.Reads as zero-bytes-reads
 
 zero-bytes-requires : tie.Need-zero-bytes-requires
 zero-bytes-requires c κs = search needs
