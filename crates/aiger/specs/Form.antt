@@ -1,4 +1,4 @@
--- The line form of document 01, 'AIGER text'. A text is a list of bytes, and a reader says what stands at the front of what is left of it.
+-- The line form of the scope, 'AIGER text'. A text is a list of bytes, and a reader says what stands at the front of what is left of it.
 -- Assumes nothing.
 use Prim.Native.Nat.{ℕ, _+_, _*_, _-_}
 use mathlib.Core.Bool.{Bool, true, false, _&&_, _||_}

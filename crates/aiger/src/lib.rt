@@ -1,5 +1,5 @@
-// Combinational ASCII AIGER by document 01, 'AIGER text': what a text means, and the reading of its lines. Nothing here knows of tables. The text call stands in the crate nets;
-// the modules are for the crates above.
+// Combinational ASCII AIGER by the scope, 'AIGER text': what a text means, and the reading of its lines. Nothing here knows of tables. The text call
+// stands in the crate nets; the modules here are for the crates above.
 pub mod header;
 pub mod lines;
 pub mod net;

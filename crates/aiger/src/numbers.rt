@@ -4,7 +4,7 @@ ghost use lib.ListN.{drop};
 ghost use Rattle.aiger.specs.Form as form;
 ghost use Rattle.aiger.specs.Answers.{stepOf, numberOf, stopOf, faultOf};
 
-// Which of document 01's (a), (b), (c) a line breaks.
+// Which of the scope's (a), (b), (c) a line breaks.
 pub enum Fault {
     NoNewline,
     BadNumber,

@@ -1,4 +1,4 @@
-// Only for the crates of this project that stand above: no call of document 01 is here.
+// Only for the crates of this project that stand above: no call of the scope is here.
 // `read_net` reads a text once into lent slices; `number_of` gives a refusal's number.
 use crate::body::read_body;
 use aiger::header::HeaderRead;

@@ -1,4 +1,4 @@
-// A text becomes a net, or is refused, by document 01, 'AIGER text'; the text call.
+// A text becomes a net, or is refused, by the scope, 'AIGER text'; the text call.
 mod body;
 pub mod for_circuit;
 
@@ -9,7 +9,7 @@ use aiger::net::NetRead;
 ghost use mathlib.Core.Path.{_≡_};
 ghost use Rattle.aiger.specs.Answers.{textCall};
 
-// The text call: document 01's checks from 9 to the output literals.
+// The text call: the scope's checks from 9 to the output literals.
 pub fn text(s: &[u8]) -> Answer
     ensures { λ r. ⌜ r ≡ textCall (now (s .entry)) ⌝ }
 {
