@@ -7,6 +7,12 @@ source tests/counting
 room=$(mktemp -d)
 trap 'rm -rf "$room"' EXIT
 
+# The header is compiled as C++, too, and not every machine has g++.
+if ! command -v g++ >/dev/null; then
+    echo "mg: g++ is installed"
+    (apt-get update && apt-get install -y --no-install-recommends g++) >"$room/said" 2>&1 || tail -n 5 "$room/said"
+fi
+
 # compiles LANGUAGE.. < CODE: whether a program that includes the header is compiled without a warning
 compiles() { "$@" -Wall -Wextra -pedantic -Werror -Iinclude -fsyntax-only -; }
 includes() { echo '#include "mg.h"' | compiles "$@"; }
