@@ -13,10 +13,10 @@ from collections import Counter
 import blocks
 
 STEPS = {"make": "table::make::make", "sum": "sums::written::sum", "product": "products::written::product", "normal form": "reduction::normal_form"}
-# Where instructions are spent, by the start of a function's name. What is in none of them is zeroing, by the C library.
+# Where instructions are spent, by the starts of functions' names. What is in none of them is zeroing, by the C library.
 PARTS = {
-    "reading": "aiger::",
-    "checking": "table::check::",
+    "reading": ("aiger::", "nets::"),
+    "checking": "checks::check::",
     "make": "table::make::",
     "remembering": "table::memory::",
     "sum": "sums::",
