@@ -14,7 +14,7 @@ use Rattle.aiger.specs.Net.{defined, lefts, Net}
 use Rattle.aiger.specs.Meaning.{Values, literal, assign, feed, run, values}
 use Rattle.aiger.proofs.Marking.{defined-snoc}
 use Rattle.aiger.proofs.GateLines.{lefts-snoc}
-use Rattle.aiger.proofs.Accepted.{News, Chain, Accepted}
+use Rattle.aiger.specs.Accepted.{News, Chain, Accepted}
 
 -- two values of the variables that ls defines are the same
 abbrev pub Agree : List ℕ → Values → Values → Type 0

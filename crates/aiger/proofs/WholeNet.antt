@@ -22,7 +22,6 @@ use Rattle.aiger.specs.declared.net.NetRead.the-variants.{Whole, Unread}
 use Rattle.aiger.specs.declared.Answer.the-variants.{Counted, Refused}
 use Rattle.aiger.proofs.Bools.{split-and}
 use Rattle.aiger.proofs.Marking.{marks-start}
-use Rattle.aiger.proofs.InSlices.{length-gates}
 
 -- the limits as facts
 pub record Within (h : Header) : Type 0 where
@@ -117,9 +116,6 @@ module _ {s : List ℕ} {x : Slices} {d : Got Net} {r : NetRead} (g : NetGot s x
 
     pub outputs-counted : 1024 ≤ length (x .outs) → length (netIn h x .outputs) ≡ h .outputs
     outputs-counted l = let w = net-within in length-take-le (h .outputs) (x .outs) (omega (arith, w .outs))
-
-    pub gates-counted : length (netIn h x .gates) ≡ h .gates
-    gates-counted = length-gates (h .gates) (x .lefts) (x .rights0) (x .rights1)
 
     pub answer-counted : 1024 ≤ length (x .ins) → 1024 ≤ length (x .outs) → Counted (h .inputs) (h .outputs) ≡ answerOf d
     answer-counted li lo = rw (net-whole, inputs-counted li, outputs-counted lo)

@@ -1,13 +1,13 @@
 -- The soundness check, row by row.
-use Prim.Native.Nat.{ℕ, zero, suc, _+_, _/_, _<_, _≤_}
+use Prim.Native.Nat.{ℕ, suc, _+_, _/_, _<_, _≤_}
 use mathlib.Core.Path.{_≡_, refl, sym, ap, subst, _∙_}
 use mathlib.Core.Bool.{Bool, true, false, _&&_}
 use mathlib.Core.List.{List, _++_}
 use native.Mathlib.Omega.{arith}
 use native.Mathlib.Numerals.{add-one}
 use lib.ListN.{length, getD, drop, replicate, length-append, length-replicate, length-drop, getD-replicate, List·getD-append}
-use Rattle.steps.specs.Rows.{Row, row-of, Rows, none, _▹_, count, row, find}
-use Rattle.steps.specs.Sound.{Sound, sound, fits}
+use Rattle.steps.specs.Rows.{Row, row-of, Rows, count, row, find}
+use Rattle.steps.specs.Sound.{sound, fits}
 use Rattle.steps.specs.Table.{Slices, row-at, rows-of}
 use lib.Dec.{eqb, leb, ltb}
 use borrow.Author.Tests.{eqb-true, leb-true, eq-eqb, ne-eqb, lt-ltb, le-ltb}
@@ -19,8 +19,8 @@ use Rattle.table.specs.Inner.{number-of, Some, Finds}
 use Rattle.steps.proofs.Sound.{fits-true, sound-true, sound-part}
 use Rattle.steps.proofs.Table.{rows-of-count, rows-of-next, rows-of-part}
 use Rattle.table.specs.Lent.{room, Lent}
-use Rattle.table.specs.Index.{index-words, newest-in, Followed, Chains, Apart, Indexed, enter, Linkable, Front}
-use Rattle.table.specs.Memory.{reach, Live}
+use Rattle.table.specs.Index.{index-words, Followed, Apart, Indexed, enter, Linkable, Front}
+use Rattle.table.specs.Memory.{reach}
 use Rattle.table.specs.Calls.{in-range}
 use Rattle.checks.specs.declared.check.Table.the-variants.{Fine, Unsound}
 use Rattle.checks.specs.Checks.{parts-fit, RowNext, Zeroed, Prepared, SoundChecked, Checked}

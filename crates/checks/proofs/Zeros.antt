@@ -1,15 +1,12 @@
 -- Slices filled with zeros.
-use Prim.Native.Nat.{ℕ, zero, suc, _+_, _-_, _<_, _≤_}
-use mathlib.Core.Path.{_≡_, refl, sym, ap, subst, _∙_}
-use mathlib.Core.List.{List, [], _∷_, _++_, append-nil}
+use Prim.Native.Nat.{ℕ, _+_, _-_, _<_, _≤_}
+use mathlib.Core.Path.{_≡_, ap, _∙_}
+use mathlib.Core.List.{List, [], _++_, append-nil}
 use native.Mathlib.Omega.{arith}
 use borrow.Author.Fill.{fill-more}
 use borrow.Rule.Slice.PartMut.{midOf, putMid, mid-len}
-use lib.ListN.{length, getD, take, drop, set, replicate, length-set, length-drop, length-replicate, length-append, drop-of-length-le, take-append-drop, List·getD-append, getD-replicate}
-use Rattle.steps.specs.Table.{Slices, slices}
-use Rattle.table.specs.Memory.{reach}
-use Rattle.checks.specs.Checks.{Zeroed}
-use Rattle.table.proofs.Words.{reach-fits}
+use lib.ListN.{length, take, drop, set, replicate, length-set, length-drop, drop-of-length-le}
+use Rattle.steps.specs.Table.{slices}
 
 abbrev pub Filled : List ℕ → ℕ → List ℕ → Type 0
 Filled xs₀ i xs = (i ≤ length xs₀) × (length xs ≡ length xs₀) × (xs ≡ replicate i 0 ++ drop i xs₀)

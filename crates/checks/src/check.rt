@@ -18,7 +18,7 @@ ghost use Rattle.steps.specs.Table.{slices, row-at, rows-of};
 ghost use Rattle.table.specs.Lent.{Lent};
 ghost use Rattle.table.specs.Index.{index-words, enter};
 ghost use Rattle.table.specs.Calls.{in-range};
-ghost use Rattle.checks.specs.Checks.{parts-fit, RowNext, Zeroed, Prepared, SoundChecked, Checked};
+ghost use Rattle.checks.specs.Checks.{parts-fit, RowNext, Prepared, SoundChecked, Checked};
 
 // What the checks find.
 pub enum Table {

@@ -1,6 +1,6 @@
 -- The system, an output's literal and its normal form, one after the other.
 use Prim.Native.Nat.{ℕ}
-use mathlib.Core.Path.{_≡_, _∙_}
+use mathlib.Core.Path.{_∙_}
 use mathlib.Core.List.{List}
 use Rattle.steps.specs.Steps.{normal}
 use Rattle.steps.specs.Table.{Slices}

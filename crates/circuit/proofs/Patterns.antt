@@ -12,10 +12,10 @@ use Rattle.steps.specs.One.{one}
 use Rattle.steps.specs.Rows.{Rows, none, _▹_, next, row, root, Assignment}
 use Rattle.steps.specs.Sound.{Sound}
 use Rattle.steps.specs.Table.{Slices, rows-of}
-use Rattle.numbers.specs.Calls.{bit, bytes-of}
+use Rattle.numbers.specs.Calls.{bytes-of}
 use Rattle.numbers.specs.Inner.{Lasting}
 use Rattle.numbers.proofs.Ones.{bytes-at as bytes-of-at}
-use Rattle.verdicts.specs.Patterns.{byte, bytes}
+use Rattle.verdicts.specs.Patterns.{bytes}
 use Rattle.verdicts.specs.Systems.{ring}
 use Rattle.circuit.specs.Inner.{bytes-at, PatternAsked}
 
@@ -47,10 +47,6 @@ module _ (N N′ : ℕ) (h : N ≤ N′) where
           new = c .new;
         },
       )
-
-byte-bit : (x : Bool) → bit x ≡ byte x
-byte-bit true = refl
-byte-bit false = refl
 
 getD-mapped : (f : ℕ → ℕ) (ls : List ℕ) (j : ℕ) → j < length ls → getD (map f ls) j 0 ≡ f (getD ls j 0)
 getD-mapped f [] j h = absurd (omega arith)
@@ -100,4 +96,4 @@ module _ (M c : ℕ) (s : Slices) (k : ℕ) (ins p₀ : List ℕ) (a : PatternAs
       ext-getD 0 p (bytes (map f (take (length p₀) ins))) (x .same-length ∙ sym long-enough) (λ j g.
       let u : j < length p₀ = omega (arith, x .same-length) in
       x .each j (omega arith) ∙ ap (λ (l : List ℕ). getD l (M - getD ins j 0 / 2) 0) e
-      ∙ bytes-of-at 1024 found (M - getD ins j 0 / 2) (omega (arith, a .vars, a .positive j u, a .low j u)) ∙ byte-bit (f (getD ins j 0)) ∙ sym (there j u))
+      ∙ bytes-of-at 1024 found (M - getD ins j 0 / 2) (omega (arith, a .vars, a .positive j u, a .low j u)) ∙ sym (there j u))

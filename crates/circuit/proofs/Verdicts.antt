@@ -1,5 +1,5 @@
 -- The verdict of the call, from what was made to the refusals before it.
-use Prim.Native.Nat.{ℕ, zero, suc, _+_, _*_, _/_, _<_, _≤_}
+use Prim.Native.Nat.{ℕ, zero, suc, _+_, _*_, _<_, _≤_}
 use mathlib.Core.Path.{_≡_, refl, sym, ap, subst, _∙_}
 use mathlib.Core.Bool.{Bool, true, false, _&&_}
 use mathlib.Core.List.{List, [], _∷_, _++_}
@@ -21,7 +21,7 @@ use Rattle.checks.specs.Checks.{Checked}
 use Rattle.table.specs.Lent.{room, Lent}
 use Rattle.steps.specs.Rows.{none, next}
 use Rattle.steps.specs.Steps.{Answer as StepsAnswer, answer}
-use Rattle.steps.proofs.Table.{rows-of-next}
+use Rattle.steps.proofs.Table.{rows-of-next, rows-of-none}
 use Rattle.checks.proofs.Endings.{taken-lends, fine-live}
 use Rattle.table.proofs.Takes.{taken-rows, taken-lent}
 use Rattle.reduction.specs.Inner.{Took}
@@ -31,7 +31,8 @@ use Rattle.aiger.specs.declared.net.NetRead.{NetRead}
 use Rattle.aiger.specs.declared.net.NetRead.the-variants.{Whole, Unread}
 use Rattle.aiger.specs.declared.net.Refusal.{Refusal}
 use Rattle.aiger.specs.declared.header.Sizes.{Sizes}
-use Rattle.aiger.proofs.Accepted.{News, accepted, gates-ascending}
+use Rattle.aiger.specs.Accepted.{News}
+use Rattle.aiger.proofs.Accepted.{accepted, gates-ascending}
 use Rattle.aiger.proofs.WholeNet.{Within, within, net-whole, net-unread}
 use Rattle.verdicts.proofs.Building.{reduced}
 use Rattle.verdicts.proofs.Inputs.{output-low}
@@ -81,10 +82,6 @@ module _ (s : Slices) where
     elses-tell h = rw (le-leb (length (s .vars)) 8192 few, eq-eqb (length (s .thens)) (length (s .vars)) h)
 
 -- an accepted net in slices
-
-from-nothing : (s : Slices) → rows-of s 0 ≡ none
-unfolding rows-of
-from-nothing s = refl
 
 -- the inputs are literals of ring variables
 pub inputs-at : (M : ℕ) (ls more : List ℕ) → News M ls more → (i : ℕ) → i < length more → (2 ≤ getD more i 0) × (getD more i 0 ≤ 2 * M + 1)
@@ -158,7 +155,7 @@ module _ (s : Slices) (work : List ℕ) (h : Sizes) (x : NetSlices) (o I : ℕ) 
         number-used : (k : Row) (c : ℕ) → Took (h .vars) (output-steps (net .M) (net .gates) (getD (net .outputs) o 0)) (At k c) 0 s s₁ work work₁ → k .0 < c + 2
         number-used k c d =
             let z = reduced (h .vars) (net .gates) (getD (net .outputs) o 0) (gates-ascending (b .net)) (output-low (b .net) o there) in
-            let e : output-steps (net .M) (net .gates) (getD (net .outputs) o 0) none ≡ answer (k .0) (rows-of s₁ c) = ap (output-steps (net .M) (net .gates) (getD (net .outputs) o 0)) (sym (from-nothing s)) ∙ taken-rows (d .taken) in
+            let e : output-steps (net .M) (net .gates) (getD (net .outputs) o 0) none ≡ answer (k .0) (rows-of s₁ c) = ap (output-steps (net .M) (net .gates) (getD (net .outputs) o 0)) (sym (rows-of-none s)) ∙ taken-rows (d .taken) in
             let u = subst (λ (y : StepsAnswer). y .num < next (y .rows)) e (z .used) in
             omega (arith, u, rows-of-next s₁ c)
 

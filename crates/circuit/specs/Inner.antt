@@ -1,6 +1,6 @@
 -- What the inner functions of the circuit call ask and promise.
 -- Assumes nothing: these are definitions.
-use Prim.Native.Nat.{ℕ, zero, _+_, _/_, _<_, _≤_}
+use Prim.Native.Nat.{ℕ, _+_, _/_, _<_, _≤_}
 use mathlib.Core.Path.{_≡_}
 use mathlib.Core.Bool.{Bool, true, false}
 use mathlib.Core.List.{List, map}
@@ -18,7 +18,7 @@ use Rattle.table.specs.Memory.{Live}
 use Rattle.aiger.specs.Answers.{Slices as NetSlices, Lent as NetLent, sizesOf, netIn}
 use Rattle.aiger.specs.Net.{limits}
 use Rattle.aiger.specs.declared.header.Sizes.{Sizes}
-use Rattle.aiger.proofs.Accepted.{Accepted}
+use Rattle.aiger.specs.Accepted.{Accepted}
 use Rattle.verdicts.specs.Calls.{verdict-0, verdict-1, verdict-2, Left, left}
 use Rattle.verdicts.specs.Patterns.{bytes}
 use Rattle.verdicts.specs.Systems.{ring}

@@ -17,7 +17,6 @@ use table::make::Made;
 ghost use mathlib.Core.Path.{_≡_};
 ghost use lib.ListN.{length, replicate, take};
 ghost use Rattle.steps.specs.Table.{slices};
-ghost use Rattle.table.specs.Lent.{room};
 ghost use Rattle.aiger.specs.Answers as net;
 ghost use Rattle.verdicts.specs.Calls.{lengths-fine, end-with, judge, circuit-call};
 ghost use Rattle.verdicts.specs.Verdicts.{verdict-of};

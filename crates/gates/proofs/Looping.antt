@@ -20,7 +20,7 @@ use Rattle.table.proofs.Takes.{taken-rows}
 use Rattle.sums.proofs.Keeping.{kept-by, kept-nothing, kept-full, kept-then}
 use Rattle.aiger.specs.Answers.{gatesOf}
 use Rattle.aiger.specs.Form.{Gate}
-use Rattle.aiger.proofs.Accepted.{Ascending}
+use Rattle.aiger.specs.Accepted.{Ascending}
 use Rattle.aiger.proofs.InSlices.{gateAt, gates-from, length-gates}
 use Rattle.verdicts.specs.Systems.{gate-steps, build}
 use Rattle.verdicts.proofs.Building.{Next, gate-leaves, keeps-build}

@@ -1,18 +1,16 @@
 -- After the system: an output's literal and its normal form, for the crate above.
 use Prim.Native.Nat.{ℕ, suc, _+_, _/_, _<_, _≤_}
-use mathlib.Core.Path.{_≡_, refl, sym, ap, _∙_}
+use mathlib.Core.Path.{_≡_, sym, ap, _∙_}
 use mathlib.Core.List.{List}
 use native.Mathlib.Omega.{arith}
-use Rattle.steps.specs.Rows.{none}
 use Rattle.steps.specs.Steps.{Answer, Steps, answer, _>>=_, normal}
 use Rattle.steps.specs.Table.{Slices, rows-of}
 use Rattle.steps.proofs.Keeps.{keeps-normals}
-use Rattle.steps.proofs.Table.{rows-of-next}
+use Rattle.steps.proofs.Table.{rows-of-next, rows-of-none}
 use Rattle.table.specs.declared.Row.{Row}
 use Rattle.table.specs.declared.make.Made.{Made}
 use Rattle.table.specs.declared.make.Made.the-variants.{At, Full}
 use Rattle.table.specs.Inner.{Taken, Kept}
-use Rattle.table.specs.Memory.{Live}
 use Rattle.table.proofs.Takes.{taken-rows, taken-full, taken-then}
 use Rattle.aiger.specs.Answers.{gatesOf}
 use Rattle.aiger.specs.Form.{Gate}
@@ -20,10 +18,6 @@ use Rattle.verdicts.specs.Systems.{literal-steps, build, output-steps}
 use Rattle.verdicts.proofs.Building.{whole-system, literal-ok, keeps-reduce}
 use Rattle.steps.proofs.Theorems.{right}
 use Rattle.gates.specs.Inner.{LiteralAsked, BuildAsked}
-
-from-nothing : (s : Slices) → rows-of s 0 ≡ none
-unfolding rows-of
-from-nothing s = refl
 
 module _ (N : ℕ) (s : Slices) (work xs ys zs : List ℕ) (gates : ℕ) (a : BuildAsked N s work xs ys zs gates) (l : ℕ) (low : l / 2 ≤ N) where
   abbrev all : List Gate
@@ -40,7 +34,7 @@ module _ (N : ℕ) (s : Slices) (work xs ys zs : List ℕ) (gates : ℕ) (a : Bu
     system-there : (F .0 < c + 2) × (F .0 ≡ 0 → ⊥)
     system-there =
         let w = whole-system N all (a .order) in
-        let e : answer (w .num) (w .rows) ≡ answer (F .0) (rows-of s₁ c) = sym (w .runs) ∙ ap (build N all 1) (sym (from-nothing s)) ∙ taken-rows (k .taken) in
+        let e : answer (w .num) (w .rows) ≡ answer (F .0) (rows-of s₁ c) = sym (w .runs) ∙ ap (build N all 1) (sym (rows-of-none s)) ∙ taken-rows (k .taken) in
         let y = rw (ap (λ (x : Answer). x .num) e, ap (λ (x : Answer). x .rows) e) at (w .sys) in
         (omega (arith, y .used, rows-of-next s₁ c), y .not-0)
 
@@ -52,9 +46,6 @@ module _ (N : ℕ) (s : Slices) (work xs ys zs : List ℕ) (gates : ℕ) (a : Bu
 
     module _ (p : Row) (n : ℕ) (s₂ : Slices) (work₂ : List ℕ) (d : Kept N (literal-steps N l) (At p n) c s₁ s₂ work₁ work₂) where
       -- what the normal form asks
-      pub normal-live : Live N n s₂ work₂
-      normal-live = d .live
-
       pub normal-used : p .0 < n + 2
       normal-used = let r = right (literal-ok N (rows-of s₁ c) (k .live .sound) l 0 low (omega arith)) in omega (arith, rw (taken-rows (d .taken)) at (r .used), rows-of-next s₂ n)
 

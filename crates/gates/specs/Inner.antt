@@ -1,6 +1,6 @@
 -- What the functions of literals and gates ask.
 -- Assumes nothing: these are definitions.
-use Prim.Native.Nat.{ℕ, _+_, _-_, _/_, _<_, _≤_}
+use Prim.Native.Nat.{ℕ, _+_, _/_, _<_, _≤_}
 use mathlib.Core.Path.{_≡_}
 use mathlib.Core.List.{List}
 use lib.ListN.{length}
@@ -11,7 +11,7 @@ use Rattle.steps.specs.Table.{Slices, rows-of}
 use Rattle.table.specs.Memory.{Live}
 use Rattle.aiger.specs.Answers.{gatesOf}
 use Rattle.aiger.specs.Form.{Gate}
-use Rattle.aiger.proofs.Accepted.{Ascending}
+use Rattle.aiger.specs.Accepted.{Ascending}
 use Rattle.verdicts.specs.Systems.{ring}
 
 -- "their product, then the equation is added", of the gate of left l, where F is the system before

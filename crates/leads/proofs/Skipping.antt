@@ -1,13 +1,13 @@
 -- Leads that are skipped without a row: what is left of a system, and that it gives the same normal forms.
-use Prim.Native.Nat.{ℕ, zero, suc, _+_, _<_, _≤_}
-use mathlib.Core.Path.{_≡_, refl, sym, ap, _∙_}
+use Prim.Native.Nat.{ℕ, suc, _<_, _≤_}
+use mathlib.Core.Path.{_≡_, refl, _∙_}
 use native.Mathlib.Omega.{arith}
-use Rattle.steps.specs.Rows.{Row, Rows, next, row, root}
+use Rattle.steps.specs.Rows.{Rows, next, row, root}
 use Rattle.steps.specs.Sound.{Sound}
 use Rattle.steps.specs.Steps.{answer, normal}
 use Rattle.steps.proofs.Laws.{normal-above}
 use Rattle.steps.proofs.Normal.{normals-1}
-use Rattle.steps.proofs.Roots.{root-le, node-below}
+use Rattle.steps.proofs.Roots.{node-below}
 use Rattle.steps.proofs.Rows.{_≼_, Node, row-keeps, row-const}
 use Rattle.leads.specs.Inner.{Skips, stays, skips}
 

@@ -4,7 +4,6 @@ use table::Row;
 use table::Var;
 use table::memory::words_used;
 use table::rows::row_of;
-ghost use mathlib.Core.Path.{_≡_};
 ghost use Prim.Native.Nat.{_<_};
 ghost use Rattle.steps.specs.Table.{slices, rows-of};
 ghost use Rattle.table.specs.Lent.{Numbered};

@@ -7,6 +7,7 @@ use mathlib.Core.List.{List}
 use native.Mathlib.Omega.{arith}
 use lib.Dec.{eqb, ltb}
 use lib.ListN.{length}
+use Rattle.steps.specs.Rows.{bit}
 use Rattle.steps.specs.Sound.{sound}
 use Rattle.steps.specs.Table.{Slices, rows-of}
 use Rattle.steps.specs.Steps.{Steps, make, normal}
@@ -20,7 +21,7 @@ use Rattle.numbers.specs.declared.Valued.{Valued}
 use Rattle.numbers.specs.declared.Valued.the-variants.{Value, NoValue}
 use Rattle.numbers.specs.declared.Sought.{Sought}
 use Rattle.numbers.specs.declared.Sought.the-variants.{One, NoOne}
-use Rattle.numbers.specs.Calls.{variable-call, all-bits, value-call, bit, OneLeft, one-left, one-call, OneMeans}
+use Rattle.numbers.specs.Calls.{variable-call, all-bits, value-call, OneLeft, one-left, one-call, OneMeans}
 use Rattle.sums.specs.Calls.{pair-call, Does, Means, Answered}
 use Rattle.normal.specs.Calls.{system-checked, in-order, equation-call, Adds, normal-call, Reduced}
 use Rattle.aiger.specs.Net.{Got, got, refused, Net, circuit}
@@ -29,7 +30,7 @@ use Rattle.aiger.specs.declared.net.Refusal.{Refusal}
 use Rattle.aiger.specs.declared.net.Refusal.the-variants.{TooLong, Form, Limits, Literal, Order}
 use Rattle.aiger.specs.declared.Answer.{Answer as Text-answer}
 use Rattle.aiger.specs.declared.Answer.the-variants.{Counted, Refused as Text-refused}
-use Rattle.verdicts.specs.Calls.{refusal, Left as Circuit-left, refuse as refuse-circuit, lengths-fine, end-with, judge, judge-read, circuit-call}
+use Rattle.verdicts.specs.Calls.{refusal, Left as Circuit-left, refuse as refuse-circuit, lengths-fine, end-with, judge-read, circuit-call}
 use Rattle.verdicts.specs.Verdicts.{Verdict, never, can, room-out, verdict-of}
 use Rattle.circuit.specs.Answers.{answer-of, Answered as Circuit-answered}
 use Rattle.circuit.specs.declared.Judged.{Judged}

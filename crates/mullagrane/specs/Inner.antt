@@ -6,7 +6,7 @@ use mathlib.Core.Bool.{true}
 use Rattle.aiger.specs.Answers.{Slices, Lent, sizesOf, netIn}
 use Rattle.aiger.specs.Net.{limits}
 use Rattle.aiger.specs.declared.header.Sizes.{Sizes}
-use Rattle.aiger.proofs.Accepted.{Accepted}
+use Rattle.aiger.specs.Accepted.{Accepted}
 use Rattle.steps.specs.Table as rows
 use Rattle.table.specs.declared.make.Made.{Made}
 use Rattle.outputs.specs.Inner.{BuiltIf}

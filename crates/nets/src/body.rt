@@ -9,7 +9,6 @@ use aiger::lines::line_of_number;
 use aiger::net::Lines;
 use aiger::net::NetRead;
 use aiger::net::Refusal;
-use aiger::numbers::Fault;
 use aiger::numbers::Read;
 use aiger::numbers::read_fault;
 ghost use mathlib.Core.Path.{_≡_};

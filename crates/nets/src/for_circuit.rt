@@ -2,7 +2,6 @@
 // `read_net` reads a text once into lent slices; `number_of` gives a refusal's number.
 use crate::body::read_body;
 use aiger::header::HeaderRead;
-use aiger::header::Sizes;
 use aiger::header::header_fault;
 use aiger::header::limits;
 use aiger::header::line_of_header;

@@ -1,27 +1,23 @@
 -- The ways out of the calls equation and normal form.
-use Prim.Native.Nat.{ℕ, suc, _+_, _<_, _≤_}
-use mathlib.Core.Path.{_≡_, refl, sym, ap, subst, _∙_}
-use mathlib.Core.Bool.{Bool, true, false, _&&_, not, Bool·beq}
+use Prim.Native.Nat.{ℕ, _+_, _<_, _≤_}
+use mathlib.Core.Path.{_≡_, refl, _∙_}
 use mathlib.Core.List.{List}
 use native.Mathlib.Omega.{arith}
-use lib.Dec.{eqb, ltb}
-use lib.ListN.{length}
 use borrow.Author.Tests.{lt-ltb, le-ltb, eq-eqb, ne-eqb}
-use Rattle.steps.specs.Rows.{Rows, next, row, root, row-of, value, Assignment}
+use Rattle.steps.specs.Rows.{next, row, root, row-of}
 use Rattle.steps.specs.Sound.{Sound, sound}
-use Rattle.steps.specs.Steps.{Steps, answer, make, normal}
+use Rattle.steps.specs.Steps.{normal}
 use Rattle.steps.specs.System.{InOrder, equation}
 use Rattle.steps.specs.Table.{Slices, rows-of}
 use Rattle.steps.proofs.Equations.{equation-holds}
 use Rattle.steps.proofs.Table.{rows-of-next}
 use Rattle.steps.proofs.Theorems.{normal-agrees, normal-no-lead}
-use Rattle.table.specs.declared.Row.{Row}
 use Rattle.table.specs.declared.Answer.{Answer}
 use Rattle.table.specs.declared.Answer.the-variants.{Refused}
 use Rattle.table.specs.declared.make.Made.{Made}
 use Rattle.checks.specs.declared.check.Table.{Table}
 use Rattle.checks.specs.declared.check.Table.the-variants.{Fine, OutOfRange, Unsound}
-use Rattle.table.specs.Lent.{Lent, Numbered}
+use Rattle.table.specs.Lent.{Lent}
 use Rattle.table.specs.Inner.{Taken}
 use Rattle.checks.specs.Checks.{Checked}
 use Rattle.table.specs.Calls.{unless_then_else_, in-range, Left, left, refuse, take-steps, checked, finished}

@@ -1,39 +1,27 @@
 -- The ways out of the calls.
-use Prim.Native.Nat.{ℕ, zero, suc, _+_, _-_, _<_, _≤_}
-use mathlib.Core.Path.{_≡_, refl, sym, ap, subst, _∙_}
-use mathlib.Core.Bool.{Bool, true, false, _&&_, not}
-use mathlib.Core.List.{List, [], _∷_, _++_, append-nil}
+use Prim.Native.Nat.{ℕ, _+_, _<_, _≤_}
+use mathlib.Core.Path.{_≡_, refl, sym, ap, _∙_}
+use mathlib.Core.Bool.{Bool, true, false}
+use mathlib.Core.List.{List}
 use native.Mathlib.Omega.{arith}
 use native.Mathlib.Numerals.{add-one}
-use lib.Dec.{eqb, ltb}
-use lib.ListN.{length, getD, take, drop, replicate, take-append-drop, drop-of-length-le}
-use lib.Seq.{take-suc, drop-cons}
+use lib.ListN.{length, getD, drop, drop-of-length-le}
+use lib.Seq.{drop-cons}
 use borrow.Author.Tests.{lt-ltb, le-ltb, eq-eqb, ne-eqb}
-use Rattle.steps.specs.Rows.{Row as Triple, Rows, count, Assignment, value}
-use Rattle.steps.specs.Sound.{Sound, sound}
-use Rattle.steps.specs.Table.{Slices, slices, row-at, rows-of}
-use Rattle.steps.specs.Steps.{Steps, make}
-use Rattle.steps.specs.Room.{Ending, made, full, within}
-use Rattle.steps.proofs.Sound.{sound-true}
-use Rattle.steps.proofs.Table.{rows-of-count}
+use Rattle.steps.specs.Rows.{value}
+use Rattle.steps.specs.Sound.{sound}
+use Rattle.steps.specs.Table.{Slices, rows-of}
 use Rattle.numbers.specs.Calls.{variable-checked, variable-call, assigned, value-checked, value-call, bytes-of, OneLeft, one-left, one-checked, one-call, all-bits}
 use Rattle.numbers.specs.Inner.{Lasting}
 use Rattle.numbers.specs.declared.Sought.the-variants.{One, NoOne}
 use Rattle.numbers.specs.declared.Valued.{Valued}
 use Rattle.numbers.specs.declared.Valued.the-variants.{Value, NoValue}
-use Rattle.table.specs.Calls.{in-range, in-use, column, laid, freed, cleared, Left, left, refuse, end-in, take-steps, checked, finished}
+use Rattle.table.specs.Calls.{in-range, refuse, checked}
 use Rattle.checks.specs.Checks.{Checked}
 use Rattle.checks.proofs.Endings.{out-of-range, not-sound, all-fine}
-use Rattle.table.specs.Inner.{said, Taken}
-use Rattle.table.specs.Lent.{room, Lent}
 use Rattle.table.specs.Memory.{Live}
-use Rattle.table.specs.declared.Answer.{Answer}
-use Rattle.table.specs.declared.Answer.the-variants.{Made as Answer-made, Refused}
-use Rattle.table.specs.declared.Row.{Row}
 use Rattle.checks.specs.declared.check.Table.{Table}
 use Rattle.checks.specs.declared.check.Table.the-variants.{Fine, OutOfRange, Unsound}
-use Rattle.table.specs.declared.make.Made.{Made}
-use Rattle.table.specs.declared.make.Made.the-variants.{At, Full}
 use Rattle.steps.specs.One.{one}
 
 pub live-lasts : {N c : ℕ} {s : Slices} {work : List ℕ} → Live N c s work → (bytes : List ℕ) → length bytes ≡ N → Lasting c s bytes

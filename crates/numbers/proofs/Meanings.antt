@@ -1,23 +1,21 @@
 -- What the calls' answers mean, and that a call allows one outcome.
-use Prim.Native.Nat.{ℕ, _+_, _<_, _≤_}
+use Prim.Native.Nat.{ℕ, _+_, _<_}
 use mathlib.Core.Path.{_≡_, refl, sym, ap, subst, _∙_}
-use mathlib.Core.Bool.{Bool, true, false, _&&_, not}
+use mathlib.Core.Bool.{Bool, true, false, _&&_}
 use mathlib.Core.List.{List}
-use native.Mathlib.Omega.{arith}
-use lib.Dec.{eqb, ltb}
+use lib.Dec.{eqb}
 use lib.ListN.{length}
-use borrow.Author.Tests.{eqb-true, eqb-false, ltb-true}
-use Rattle.steps.specs.Rows.{value}
+use borrow.Author.Tests.{eqb-false, ltb-true}
 use Rattle.steps.specs.Sound.{sound}
 use Rattle.steps.specs.Table.{Slices, rows-of}
 use Rattle.steps.specs.One.{one}
 use Rattle.steps.proofs.Sound.{sound-true}
 use Rattle.numbers.proofs.Ones.{one-means}
-use Rattle.numbers.specs.Calls.{variable-call, value-call, bytes-of, OneLeft, one-left, one-checked, one-call, OneMeans}
+use Rattle.numbers.specs.Calls.{variable-call, value-call, bytes-of, OneLeft, one-left, one-call, OneMeans}
 use Rattle.numbers.specs.declared.Sought.{Sought}
 use Rattle.numbers.specs.declared.Sought.the-variants.{One, NoOne}
 use Rattle.numbers.specs.declared.Valued.{Valued}
-use Rattle.table.specs.Calls.{in-range, in-use, Left, left, checked}
+use Rattle.table.specs.Calls.{in-range, in-use, left}
 use Rattle.table.specs.declared.Answer.{Answer}
 
 -- a one that was answered is a one, and the least

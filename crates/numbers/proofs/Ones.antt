@@ -8,8 +8,7 @@ use native.Mathlib.Decide.{ℕ-discrete, decLt}
 use lib.Dec.{eqb}
 use lib.ListN.{length, getD, set, replicate, length-set, length-append, length-replicate, getD-replicate, List·getD-eq-default, List·getD-append}
 use lib.Seq.{getD-set-same, getD-set-other, getD-at, ext-getD}
-use borrow.Author.Tests.{eq-eqb, ne-eqb}
-use Rattle.steps.specs.Rows.{Row, row-of, Rows, next, Assignment, value, row}
+use Rattle.steps.specs.Rows.{row-of, Rows, next, Assignment, value, row, bit}
 use Rattle.steps.specs.Sound.{Fits, Sound}
 use Rattle.steps.specs.Table.{Slices, row-at, rows-of}
 use Rattle.steps.specs.One.{put, one, NotGreater}
@@ -21,9 +20,9 @@ use Rattle.steps.proofs.Occurs.{occurs-below, one-absent}
 use Rattle.steps.proofs.Theorems.{one-is-one, one-is-least}
 use Rattle.steps.proofs.Sound.{sound-below}
 use Rattle.steps.proofs.Table.{rows-of-next, rows-of-number, rows-of-part}
-use Rattle.numbers.specs.Calls.{assigned, bit, bytes-of}
+use Rattle.numbers.specs.Calls.{assigned, bytes-of}
 use Rattle.numbers.specs.Inner.{Lasting}
-use Rattle.table.specs.Lent.{room, Lent, Stands}
+use Rattle.table.specs.Lent.{Stands}
 
 pub bytes-length : (n : ℕ) (a : Assignment) → length (bytes-of n a) ≡ n
 unfolding bytes-of

@@ -1,7 +1,7 @@
 -- Evaluating the rows from row 0 on.
 use Prim.Native.Nat.{ℕ, zero, suc, _+_, _-_, _<_, _≤_}
 use mathlib.Core.Path.{_≡_, refl, sym, ap, _∙_}
-use mathlib.Core.Bool.{Bool, true, false, cond, _&&_, xor}
+use mathlib.Core.Bool.{Bool, true, false, _&&_, xor}
 use mathlib.Core.List.{List}
 use native.Mathlib.Omega.{arith}
 use native.Mathlib.Decide.{ℕ-discrete}
@@ -9,16 +9,16 @@ use lib.Dec.{eqb, ltb}
 use lib.ListN.{length, getD, set, length-set}
 use lib.Seq.{getD-set-same, getD-set-other}
 use borrow.Author.Tests.{lt-ltb, le-ltb, ltb-true, ltb-false, eq-eqb, ne-eqb}
-use Rattle.steps.specs.Rows.{Row, row-of, Rows, next, Assignment, value, row}
+use Rattle.steps.specs.Rows.{row-of, Rows, Assignment, value, row, bit}
 use Rattle.steps.specs.Sound.{Fits, Sound}
 use Rattle.steps.specs.Table.{Slices, row-at, rows-of}
 use Rattle.steps.proofs.Bools.{xor-false}
 use Rattle.steps.proofs.Sound.{sound-below}
-use Rattle.steps.proofs.Rows.{Node, node, Cut, value-0, value-1}
+use Rattle.steps.proofs.Rows.{Node, node, value-0, value-1}
 use Rattle.steps.proofs.Table.{rows-of-next, rows-of-row, rows-of-part}
-use Rattle.numbers.specs.Calls.{assigned, bit}
-use Rattle.numbers.specs.Inner.{Lasting, bit-of, Evaluated, Evaluable}
-use Rattle.table.specs.Lent.{room, Lent, Stands}
+use Rattle.numbers.specs.Calls.{assigned}
+use Rattle.numbers.specs.Inner.{bit-of, Evaluated, Evaluable}
+use Rattle.table.specs.Lent.{Stands}
 
 pub bit-const : (values : List ℕ) (k : ℕ) → k < 2 → bit-of values k ≡ k
 unfolding bit-of

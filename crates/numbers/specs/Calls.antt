@@ -1,12 +1,12 @@
 -- What the calls variable, value and one answer and leave, for all inputs. A call is one equation, so two outcomes that it allows coincide.
 -- Assumes nothing: these are definitions.
-use Prim.Native.Nat.{ℕ, zero, suc, _+_, _<_}
+use Prim.Native.Nat.{ℕ, zero, suc}
 use mathlib.Core.Path.{_≡_}
-use mathlib.Core.Bool.{Bool, true, false, _&&_, not}
+use mathlib.Core.Bool.{Bool, true, _&&_, not}
 use mathlib.Core.List.{List, [], _∷_, _++_}
 use lib.Dec.{eqb, ltb}
 use lib.ListN.{length, getD}
-use Rattle.steps.specs.Rows.{Assignment, value}
+use Rattle.steps.specs.Rows.{Assignment, value, bit}
 use Rattle.steps.specs.Sound.{sound}
 use Rattle.steps.specs.Table.{Slices, rows-of}
 use Rattle.steps.specs.Steps.{make}
@@ -44,10 +44,6 @@ unfoldable pub value-call : ℕ → ℕ → Slices → ℕ → List ℕ → Valu
 value-call N c s f bytes = checked (eqb (length bytes) N && in-range N c s) (sound N (rows-of s c)) NoValue (value-checked c s f bytes)
 
 -- the values of x_0 to x_(N-1), as bytes
-abbrev pub bit : Bool → ℕ
-bit true = 1
-bit false = 0
-
 unfoldable pub bytes-of : ℕ → Assignment → List ℕ
 bytes-of zero a = []
 bytes-of (suc n) a = bytes-of n a ++ bit (a n) ∷ []

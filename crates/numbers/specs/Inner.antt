@@ -6,11 +6,11 @@ use mathlib.Core.Bool.{cond}
 use mathlib.Core.List.{List}
 use lib.Dec.{ltb}
 use lib.ListN.{length, getD}
-use Rattle.steps.specs.Rows.{value}
+use Rattle.steps.specs.Rows.{value, bit}
 use Rattle.steps.specs.Sound.{Sound}
 use Rattle.steps.specs.Table.{Slices, rows-of}
 use Rattle.table.specs.Lent.{Lent}
-use Rattle.numbers.specs.Calls.{assigned, bit}
+use Rattle.numbers.specs.Calls.{assigned}
 
 -- a lent, sound table over as many variables as there are bytes
 pub record Lasting (c : ℕ) (s : Slices) (bytes : List ℕ) : Type 0 where

@@ -4,9 +4,9 @@ use table::rows::node_at;
 ghost use mathlib.Core.Path.{_≡_};
 ghost use Prim.Native.Nat.{_+_, _<_, _≤_};
 ghost use lib.ListN.{length};
-ghost use Rattle.steps.specs.Rows.{value};
+ghost use Rattle.steps.specs.Rows.{value, bit};
 ghost use Rattle.steps.specs.Table.{slices, rows-of};
-ghost use Rattle.numbers.specs.Calls.{assigned, bit};
+ghost use Rattle.numbers.specs.Calls.{assigned};
 ghost use Rattle.numbers.specs.Inner.{Lasting, bit-of, Evaluated, Evaluable};
 
 // The value of the number k, where the values of the rows stand in a slice.

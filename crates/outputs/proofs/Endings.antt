@@ -1,12 +1,10 @@
 -- What the steps from the system come to.
-use Prim.Native.Nat.{ℕ, zero, suc, _+_, _/_, _<_, _≤_}
+use Prim.Native.Nat.{ℕ, zero, suc}
 use mathlib.Core.Path.{_≡_, refl, sym, ap, subst, _∙_}
 use mathlib.Core.List.{List}
 use native.Mathlib.Omega.{arith}
-use lib.ListN.{length}
 use Rattle.steps.specs.One.{one}
-use Rattle.steps.specs.Room.{Ending, made, full, within}
-use Rattle.steps.specs.Rows.{Rows, count, next}
+use Rattle.steps.specs.Room.{Ending, made, within}
 use Rattle.steps.specs.Steps.{Steps, normal}
 use Rattle.steps.specs.Table.{Slices, rows-of}
 use Rattle.steps.proofs.Keeps.{Keeps, keeps-normals}
@@ -17,14 +15,12 @@ use Rattle.table.specs.declared.make.Made.{Made}
 use Rattle.table.specs.declared.make.Made.the-variants.{At, Full}
 use Rattle.table.specs.Inner.{Taken, Kept}
 use Rattle.table.specs.Lent.{room}
-use Rattle.table.proofs.Takes.{taken-rows, taken-lent, taken-full, taken-then}
-use Rattle.leads.specs.Inner.{System}
+use Rattle.table.proofs.Takes.{taken-rows, taken-full, taken-then}
 use Rattle.reduction.specs.Inner.{Asked, Took}
 use Rattle.verdicts.specs.Calls.{verdict-0, verdict-1}
 use Rattle.verdicts.specs.Systems.{literal-steps}
 use Rattle.verdicts.proofs.Building.{literal-ok}
 use Rattle.gates.specs.Inner.{LiteralAsked}
-use Rattle.circuit.specs.declared.Judged.{Judged}
 use Rattle.circuit.specs.declared.Judged.the-variants.{Never, Can, RoomOut}
 use Rattle.circuit.specs.Inner.{bytes-at, PatternAsked}
 use Rattle.outputs.specs.Inner.{output-from, ending-answer, ending-pattern, FromAsked, Stays, Ended}

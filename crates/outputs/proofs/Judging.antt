@@ -1,5 +1,5 @@
 -- The system of a net, and its outputs.
-use Prim.Native.Nat.{ℕ, zero, suc, _+_, _*_, _/_, _<_, _≤_}
+use Prim.Native.Nat.{ℕ, zero, suc, _+_, _*_, _<_, _≤_}
 use mathlib.Core.Path.{_≡_, refl, sym, ap, subst, _∙_}
 use mathlib.Core.Bool.{Bool, true, false}
 use mathlib.Core.List.{List}
@@ -8,15 +8,14 @@ use lib.ListN.{length, getD, take}
 use lib.Seq.{getD-take, length-take-le}
 use borrow.Author.Tests.{le-leb, eq-eqb}
 use Rattle.steps.specs.Room.{Ending, made, full, within}
-use Rattle.steps.specs.Rows.{Rows, none, next}
-use Rattle.steps.specs.Sound.{Sound, sound}
+use Rattle.steps.specs.Rows.{Rows}
+use Rattle.steps.specs.Sound.{Sound}
 use Rattle.steps.specs.Steps.{Answer, Steps, answer}
 use Rattle.steps.specs.Table.{Slices, rows-of}
 use Rattle.steps.proofs.Sound.{true-sound}
-use Rattle.steps.proofs.Table.{rows-of-next}
-use Rattle.table.specs.declared.Row.{Row}
+use Rattle.steps.proofs.Table.{rows-of-next, rows-of-none}
 use Rattle.checks.specs.declared.check.Table.{Table}
-use Rattle.checks.specs.declared.check.Table.the-variants.{Fine, OutOfRange, Unsound}
+use Rattle.checks.specs.declared.check.Table.the-variants.{OutOfRange, Unsound}
 use Rattle.table.specs.declared.make.Made.{Made}
 use Rattle.table.specs.declared.make.Made.the-variants.{At, Full}
 use Rattle.table.specs.Calls.{in-range}
@@ -24,7 +23,7 @@ use Rattle.checks.specs.Checks.{Checked}
 use Rattle.table.specs.Inner.{Taken, Kept}
 use Rattle.table.specs.Lent.{room, Lent}
 use Rattle.table.specs.Memory.{Live}
-use Rattle.checks.proofs.Endings.{taken-lends, fine-live}
+use Rattle.checks.proofs.Endings.{taken-lends}
 use Rattle.table.proofs.Takes.{taken-rows, taken-full}
 use Rattle.leads.specs.Inner.{System}
 use Rattle.aiger.specs.Answers.{Slices as NetSlices, gatesOf, sizesOf, netIn}
@@ -41,11 +40,7 @@ use Rattle.gates.specs.Inner.{BuildAsked}
 use Rattle.circuit.specs.declared.Judged.{Judged}
 use Rattle.circuit.specs.Inner.{NetAsked}
 use Rattle.circuit.proofs.Verdicts.{inputs-at}
-use Rattle.outputs.specs.Inner.{Built, BuiltIf, Builds, output-from, ending-answer, ending-pattern, FromAsked, Stays, Ended, OutputOf, JudgedAs}
-
-from-nothing : (s : Slices) → rows-of s 0 ≡ none
-unfolding rows-of
-from-nothing s = refl
+use Rattle.outputs.specs.Inner.{Built, Builds, output-from, ending-answer, ending-pattern, FromAsked, Stays, Ended, OutputOf, JudgedAs}
 
 -- the check finds nothing in a sound table of the right lengths
 module _ (N c : ℕ) (s : Slices) (few : N ≤ 1024) (l : Lent c s) (w : Sound N (rows-of s c)) {t : Table} {work : List ℕ} (d : Checked t N c s work) where
@@ -92,7 +87,7 @@ module _ (s : Slices) (h : Sizes) (x : NetSlices) (a : NetAsked s h x) where
     built = record {
       read = asked-after (k .taken);
       fits = omega (arith, k .taken .rest .fits, k .taken .vars);
-      system = ap (build (h .vars) (netIn h x .gates) 1) (sym (from-nothing s)) ∙ taken-rows (k .taken);
+      system = ap (build (h .vars) (netIn h x .gates) 1) (sym (rows-of-none s)) ∙ taken-rows (k .taken);
     };
   }
   builds Full s₁ work work₁ k = record { same-room = k .taken .vars; built = no-room }
@@ -101,7 +96,7 @@ module _ (s : Slices) (h : Sizes) (x : NetSlices) (a : NetAsked s h x) where
       no-room o =
           let l = getD (netIn h x .outputs) o 0 in
           let t = taken-full (output-from (h .vars) l) (keeps-reduce (h .vars) l) (k .taken) in
-          let e : within (room s₁) (output-rows (netIn h x) o) ≡ full = ap (λ (n : ℕ). within n (output-rows (netIn h x) o)) (k .taken .vars) ∙ ap (λ (R : Rows). within (room s) (output-steps (h .vars) (netIn h x .gates) l R)) (sym (from-nothing s)) ∙ t .is in
+          let e : within (room s₁) (output-rows (netIn h x) o) ≡ full = ap (λ (n : ℕ). within n (output-rows (netIn h x) o)) (k .taken .vars) ∙ ap (λ (R : Rows). within (room s) (output-steps (h .vars) (netIn h x .gates) l R)) (sym (rows-of-none s)) ∙ t .is in
           ap (judged (netIn h x)) e
 
 -- what an ending stands for is what the call's definition makes of it
@@ -190,12 +185,6 @@ module _ (s : Slices) (h : Sizes) (x : NetSlices) (c F o I : ℕ) (a : OutputOf 
 
 -- the system stays from one output to the next
 module _ (s : Slices) (h : Sizes) (x : NetSlices) (c F : ℕ) (a : Built s h x c F) where
-  pub inputs-few : h .inputs ≤ 1024
-  inputs-few = let w = limits-hold s h x (a .read) in omega (arith, w .vars, w .sum)
-
-  pub next-output : {o I : ℕ} → o < h .outputs → I ≡ h .inputs → OutputOf s h x c F o I
-  next-output g e = record { built = a; there = g; long = e }
-
   pub built-stays : (s′ : Slices) → Stays c s s′ → Built s′ h x c F
   built-stays s′ t = record {
     read = record {

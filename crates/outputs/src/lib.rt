@@ -11,7 +11,6 @@ use gates::system::literal;
 use reduction::reduce;
 use table::Row;
 use table::make::Made;
-ghost use mathlib.Core.Path.{_≡_};
 ghost use lib.ListN.{length, take};
 ghost use Rattle.steps.specs.Table.{slices};
 ghost use Rattle.table.specs.Memory.{Live};

@@ -8,7 +8,7 @@ use lib.Dec.{eqb, ltb}
 use lib.ListN.{length, take, getD, set, length-set, length-append, length-map}
 use lib.Seq.{take-suc-set, take-suc, take-all, length-take-le}
 use borrow.Author.Tests.{eqb-true, ltb-true, ltb-false}
-use Rattle.printing.specs.Text.{decimal, digit, heading, dot}
+use Rattle.printing.specs.Text.{decimal, digit, heading}
 use Rattle.printing.specs.Inner.{Put}
 
 plus-one : (n : ℕ) → n + 1 ≡ suc n

@@ -1,6 +1,6 @@
 -- The text of an output is the text of its verdict.
 use Prim.Native.Nat.{ℕ}
-use mathlib.Core.Path.{_≡_, refl, sym, ap, _∙_, subst}
+use mathlib.Core.Path.{_≡_, sym, ap, _∙_, subst}
 use mathlib.Core.List.{List}
 use Rattle.steps.specs.Table.{Slices}
 use Rattle.table.specs.declared.Row.{Row}

@@ -1,24 +1,22 @@
 -- The product's steps go by the parts of its operands at the lesser root.
-use Prim.Native.Nat.{ℕ, suc, _+_, _-_, _<_, _≤_, min}
-use mathlib.Core.Path.{_≡_, refl, sym, ap, _∙_}
+use Prim.Native.Nat.{ℕ, suc, _+_, _<_}
+use mathlib.Core.Path.{_≡_, sym, _∙_}
 use mathlib.Core.Bool.{_&&_, xor}
 use native.Mathlib.Omega.{arith}
-use native.Mathlib.Nat.{le-min, min-le-left, min-le-right}
 use mathlib.Core.List.{List}
-use Rattle.steps.specs.Rows.{Rows, next, row, root, value, Assignment}
+use Rattle.steps.specs.Rows.{Rows, next, row, value, Assignment}
 use Rattle.steps.specs.Table.{Slices, rows-of}
 use Rattle.steps.proofs.Table.{rows-of-next}
 use Rattle.table.specs.Memory.{Live}
 use Rattle.steps.specs.Sound.{Sound}
-use Rattle.steps.specs.Steps.{Steps, answer, _>>=_, make, sum, product}
+use Rattle.steps.specs.Steps.{answer, _>>=_, make, product}
 use Rattle.steps.proofs.Rows.{Cut, node}
-use Rattle.steps.proofs.Ok.{Ok}
-use Rattle.steps.proofs.Roots.{node-below, cut-absent}
+use Rattle.steps.proofs.Roots.{cut-absent}
 use Rattle.steps.proofs.Product.{ok-products, then-step-ok, absent-right, absent-left, products-left-0, products-left-1, products-right-0, products-right-1, products-same}
 use Rattle.steps.proofs.Laws.{product-less, product-more, product-both}
 use Rattle.steps.proofs.Theorems.{Right, right, value-of-product}
 use Rattle.sums.specs.Inner.{Apart, Split, less, more, both}
-use Rattle.sums.proofs.Splits.{At, split-at}
+use Rattle.sums.proofs.Splits.{split-at}
 use Rattle.products.specs.Inner.{Proper, then-steps}
 
 module _ (N : ℕ) (R : Rows) (f g : ℕ) where

@@ -1,13 +1,13 @@
 -- The steps of the normal form, function by function.
-use Prim.Native.Nat.{ℕ, zero, suc, _+_, _*_, _-_, _<_, _≤_, min}
-use mathlib.Core.Path.{_≡_, refl, sym, ap, _∙_}
+use Prim.Native.Nat.{ℕ, suc, _+_, _*_, _-_, _<_, _≤_, min}
+use mathlib.Core.Path.{_≡_, ap, _∙_}
 use mathlib.Core.Bool.{_&&_, xor}
 use mathlib.Core.List.{List}
 use native.Mathlib.Omega.{arith}
 use native.Mathlib.Nat.{le-min, min-le-left, min-eq-left}
 use lib.ListN.{length}
-use Rattle.steps.specs.Rows.{Row as Triple, row-of, Rows, next, row, root, value}
-use Rattle.steps.specs.Steps.{Steps, answer, _>>=_, make, sum, product, normal}
+use Rattle.steps.specs.Rows.{Row as Triple, row-of, next, row, root, value}
+use Rattle.steps.specs.Steps.{answer, _>>=_, make, sum, product, normal}
 use Rattle.steps.specs.Table.{Slices, rows-of}
 use Rattle.steps.proofs.Keeps.{Keeps, keeps-make, keeps-sums, keeps-products, keeps-normals, keeps-bind}
 use Rattle.steps.proofs.Laws.{normal-below, normal-equal}
@@ -28,7 +28,7 @@ use Rattle.table.specs.Inner.{Entered, Kept}
 use Rattle.table.proofs.Takes.{taken-rows}
 use Rattle.table.proofs.Words.{steps-normal}
 use Rattle.sums.specs.Inner.{Pair, depth}
-use Rattle.sums.proofs.Keeping.{kept-by, kept-nothing, kept-full, kept-then, kept-made, Step, stepped}
+use Rattle.sums.proofs.Keeping.{kept-by, kept-full, kept-then, kept-made, Step, stepped}
 use Rattle.sums.proofs.Recalling.{key-fits, steps-recalled, steps-remembered}
 use Rattle.products.specs.Inner.{Three}
 use Rattle.products.proofs.Deep.{multiplied}

@@ -13,7 +13,6 @@ use table::memory::recall;
 use table::memory::remember;
 use table::rows::Node;
 use table::rows::row_of;
-ghost use mathlib.Core.Path.{_≡_};
 ghost use Rattle.steps.specs.Steps.{normal};
 ghost use Rattle.steps.specs.Table.{slices, rows-of};
 ghost use Rattle.table.specs.Inner.{Kept};

@@ -8,7 +8,7 @@ use Rattle.steps.specs.One.{put}
 use Rattle.steps.specs.Rows.{Row, Rows, none, _▹_, next, Assignment, value, find, row, row-of}
 use Rattle.steps.specs.Sound.{Fits, Sound}
 use Rattle.steps.proofs.Bools.{xor-false}
-use Rattle.steps.proofs.Compare.{inner, Order, less, equal, greater, order}
+use Rattle.steps.proofs.Compare.{Order, less, equal, greater, order}
 use Rattle.steps.proofs.Found.{find-newest, find-keeps}
 use Rattle.steps.proofs.Put.{put-same, value-put}
 use Rattle.steps.proofs.Roots.{node-below, cut-absent}

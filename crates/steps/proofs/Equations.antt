@@ -1,18 +1,18 @@
 -- An equation added to a system.
 use Prim.Native.Nat.{ℕ, zero, suc, _<_, _≤_}
-use mathlib.Core.Path.{_≡_, refl, sym, _∙_}
+use mathlib.Core.Path.{_≡_, refl, _∙_}
 use mathlib.Core.Bool.{_&&_, Bool·beq}
 use native.Mathlib.Omega.{arith}
-use Rattle.steps.specs.Rows.{Row, row-of, Rows, none, _▹_, next, Assignment, value, row, root, find}
+use Rattle.steps.specs.Rows.{row-of, Rows, none, _▹_, next, Assignment, value, row, find}
 use Rattle.steps.specs.Sound.{Sound}
-use Rattle.steps.specs.Steps.{Steps, make}
+use Rattle.steps.specs.Steps.{make}
 use Rattle.steps.specs.System.{InOrder, equation, holds}
 use Rattle.steps.proofs.Found.{found}
 use Rattle.steps.proofs.Leads.{holds-older, holds-newest}
 use Rattle.steps.proofs.Ok.{make-found, make-new}
 use Rattle.steps.proofs.Roots.{node-below}
 use Rattle.steps.proofs.Rows.{_≼_, stop, more, next-grows, Newest, newest, older, newest?, value-older, value-keeps, row-older, row-newest, node}
-use Rattle.steps.proofs.Theorems.{Right, make-right}
+use Rattle.steps.proofs.Theorems.{make-right}
 
 -- a row that was made is the row that was asked for
 pub made-row : (N v t e : ℕ) (R : Rows) → (t ≡ 0 → ⊥) → row N (make v t e R .rows) (make v t e R .num) ≡ row-of v t e

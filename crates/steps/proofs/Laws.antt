@@ -4,7 +4,7 @@ use mathlib.Core.Path.{_≡_, refl, sym, _∙_}
 use mathlib.Core.Bool.{Bool, _&&_, xor}
 use native.Mathlib.Omega.{arith}
 use Rattle.steps.specs.Rows.{Rows, next, Assignment, value, row}
-use Rattle.steps.specs.Sound.{Sound, sound}
+use Rattle.steps.specs.Sound.{Sound}
 use Rattle.steps.specs.Steps.{Steps, _>>=_, make, sum, products, product, normal}
 use Rattle.steps.proofs.Normal.{rest, ok-normals, below-step, below-ok, normal-step, meet-ok, normals-above, normals-below, normals-equal}
 use Rattle.steps.proofs.Ok.{Is, Ok, is-keeps}

@@ -9,7 +9,6 @@ use Rattle.steps.specs.Rows.{Row, Rows, none, _▹_, next, Assignment, v
 use Rattle.steps.specs.Sound.{Sound, sound}
 use Rattle.steps.specs.Steps.{Steps, answer, _>>=_, make}
 use Rattle.steps.proofs.Bools.{and-false, xor-false}
-use Rattle.steps.proofs.Compare.{inner}
 use Rattle.steps.proofs.Found.{find-keeps, find-newest, found}
 use Rattle.steps.proofs.Rows.{_≼_, stop, more, ≼-trans, next-grows, value-0, value-keeps, value-newest, row-keeps, row-newest, node}
 

@@ -4,10 +4,10 @@ use mathlib.Core.Path.{_≡_, refl, sym, _∙_}
 use mathlib.Core.Bool.{Bool, true, false}
 use native.Mathlib.Omega.{arith}
 use lib.Dec.{leb}
-use borrow.Author.Tests.{leb-true, leb-false, le-leb, lt-leb, ne-eqb}
+use borrow.Author.Tests.{leb-true, leb-false, le-leb, lt-leb}
 use Rattle.steps.specs.Room.{Ending, made, full, within}
-use Rattle.steps.specs.Rows.{row-of, Rows, _▹_, count, next, find}
-use Rattle.steps.specs.Steps.{Answer, Steps, answer, _>>=_, make}
+use Rattle.steps.specs.Rows.{Rows, count}
+use Rattle.steps.specs.Steps.{Answer, Steps, answer, _>>=_}
 use Rattle.steps.proofs.Rows.{_≼_, count-grows}
 
 pub within-made : (room : ℕ) (a : Answer) → count (a .rows) ≤ room → within room a ≡ made (a .num) (a .rows)

@@ -8,7 +8,7 @@ use lib.Dec.{eqb}
 use lib.ListN.{length, set}
 use lib.Seq.{getD-set-same, getD-set-other}
 use borrow.Author.Tests.{eqb-true, eqb-false, eq-eqb, ne-eqb}
-use Rattle.steps.specs.Rows.{row-of, Rows, _▹_, count, next, row}
+use Rattle.steps.specs.Rows.{row-of, Rows, _▹_, count, next, row, none}
 use Rattle.steps.specs.Table.{Slices, slices, row-at, rows-of}
 use Rattle.steps.proofs.Rows.{_≼_, stop, more}
 
@@ -17,6 +17,10 @@ module _ (s : Slices) where
   unfolding rows-of count
   rows-of-count zero = refl
   rows-of-count (suc c) = ap suc (rows-of-count c)
+
+  pub rows-of-none : rows-of s 0 ≡ none
+  unfolding rows-of
+  rows-of-none = refl
 
   pub rows-of-next : (c : ℕ) → next (rows-of s c) ≡ c + 2
   unfolding rows-of next

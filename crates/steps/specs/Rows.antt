@@ -37,6 +37,11 @@ next (R ▹ r) = suc (next R)
 abbrev pub Assignment : Type 0
 Assignment = ℕ → Bool
 
+-- a value as a byte of an assignment or a pattern
+abbrev pub bit : Bool → ℕ
+bit true = 1
+bit false = 0
+
 -- the value of a number at an assignment: the constant 1 is 1, row (v, t, e) is x_v·t + e with 1 + 1 = 0
 unfoldable pub value : Assignment → Rows → ℕ → Bool
 value a none k = eqb k 1

@@ -1,13 +1,13 @@
 -- The ways out of a call that may append, and that it allows one outcome.
 use Prim.Native.Nat.{ℕ, _≤_}
-use mathlib.Core.Path.{_≡_, refl, sym, ap, subst, _∙_}
+use mathlib.Core.Path.{_≡_, sym, ap, subst, _∙_}
 use mathlib.Core.List.{List}
 use Rattle.steps.specs.Sound.{sound}
 use Rattle.steps.specs.Table.{Slices, rows-of}
 use Rattle.steps.specs.Steps.{Steps, answer}
 use Rattle.table.specs.declared.Row.{Row}
 use Rattle.table.specs.declared.Answer.{Answer}
-use Rattle.table.specs.declared.Answer.the-variants.{Made as Answer-made, Refused}
+use Rattle.table.specs.declared.Answer.the-variants.{Refused}
 use Rattle.table.specs.declared.make.Made.{Made}
 use Rattle.table.specs.declared.make.Made.the-variants.{At, Full}
 use Rattle.checks.specs.declared.check.Table.{Table}

@@ -1,23 +1,21 @@
 -- The steps of the sum where it goes deeper.
-use Prim.Native.Nat.{ℕ, zero, suc, _+_, _*_, _<_, _≤_}
-use mathlib.Core.Path.{_≡_, refl, sym, ap, _∙_}
+use Prim.Native.Nat.{ℕ, suc, _+_, _*_, _<_}
+use mathlib.Core.Path.{_≡_}
 use mathlib.Core.Bool.{_&&_, xor}
 use mathlib.Core.List.{List}
 use native.Mathlib.Omega.{arith}
-use Rattle.steps.specs.Rows.{Rows, next, row, root, value, Assignment}
-use Rattle.steps.specs.Sound.{Sound}
-use Rattle.steps.specs.Steps.{Steps, answer, _>>=_, make, sum}
+use Rattle.steps.specs.Rows.{Rows, next, root, value}
+use Rattle.steps.specs.Steps.{answer, _>>=_, make, sum}
 use Rattle.steps.specs.Table.{Slices, rows-of}
 use Rattle.steps.proofs.Keeps.{Keeps, keeps-make, keeps-sums, keeps-bind}
-use Rattle.steps.proofs.Rows.{_≼_, ≼-trans, next-grows, row-keeps}
+use Rattle.steps.proofs.Rows.{_≼_, next-grows, row-keeps}
 use Rattle.steps.proofs.Table.{rows-of-next}
 use Rattle.steps.proofs.Theorems.{Right, sum-right, make-right}
 use Rattle.table.specs.declared.Row.{Row}
 use Rattle.table.specs.declared.make.Made.{Made}
 use Rattle.table.specs.declared.make.Made.the-variants.{At as Made-at, Full}
 use Rattle.table.specs.Index.{Indexed}
-use Rattle.table.specs.Memory.{Live}
-use Rattle.table.specs.Inner.{Taken, Entered, Kept}
+use Rattle.table.specs.Inner.{Entered, Kept}
 use Rattle.table.proofs.Takes.{taken-rows}
 use Rattle.sums.specs.Inner.{Pair, Apart, depth, Split}
 use Rattle.sums.proofs.Keeping.{kept-by, kept-full, kept-then, kept-made}

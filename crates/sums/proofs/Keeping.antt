@@ -1,11 +1,10 @@
 -- How kept promises are put together.
-use Prim.Native.Nat.{ℕ, _+_, _<_, _≤_}
-use mathlib.Core.Path.{_≡_, refl, sym, ap, subst, _∙_}
+use Prim.Native.Nat.{ℕ, _+_, _<_}
+use mathlib.Core.Path.{_≡_, ap, subst}
 use mathlib.Core.List.{List}
 use mathlib.Core.Bool.{Bool}
 use native.Mathlib.Omega.{arith}
-use lib.ListN.{length}
-use Rattle.steps.specs.Rows.{Rows, next, root, Assignment}
+use Rattle.steps.specs.Rows.{root, Assignment}
 use Rattle.steps.specs.Sound.{Sound}
 use Rattle.steps.specs.Steps.{Steps, answer, _>>=_}
 use Rattle.steps.specs.Table.{Slices, rows-of}
@@ -17,8 +16,8 @@ use Rattle.table.specs.declared.Row.{Row}
 use Rattle.table.specs.declared.make.Made.{Made}
 use Rattle.table.specs.declared.make.Made.the-variants.{At, Full}
 use Rattle.table.specs.Lent.{room}
-use Rattle.table.specs.Memory.{Live, Behind}
-use Rattle.table.specs.Inner.{Taken, Entered, LiveAfter, Kept}
+use Rattle.table.specs.Memory.{Live}
+use Rattle.table.specs.Inner.{Entered, LiveAfter, Kept}
 use Rattle.table.proofs.Takes.{taken-by, taken-nothing, taken-then, taken-full, taken-rows}
 use Rattle.table.proofs.Words.{behind-refl, behind-trans, behind-front, live-grows}
 

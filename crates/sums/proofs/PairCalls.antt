@@ -1,10 +1,9 @@
 -- The ways out of a call on two numbers.
 use Prim.Native.Nat.{ℕ, _+_, _<_, _≤_}
 use mathlib.Core.Path.{_≡_, refl}
-use mathlib.Core.Bool.{Bool, _&&_, xor}
+use mathlib.Core.Bool.{Bool, xor}
 use mathlib.Core.List.{List}
 use native.Mathlib.Omega.{arith}
-use lib.Dec.{ltb}
 use borrow.Author.Tests.{lt-ltb, le-ltb}
 use Rattle.steps.specs.Rows.{Assignment, value}
 use Rattle.steps.specs.Sound.{sound}
@@ -21,7 +20,7 @@ use Rattle.table.specs.Lent.{Lent}
 use Rattle.table.specs.Memory.{Live}
 use Rattle.table.specs.Inner.{Taken}
 use Rattle.checks.specs.Checks.{Checked}
-use Rattle.table.specs.Calls.{in-range, in-use, Left, left, refuse, take-steps, checked, finished}
+use Rattle.table.specs.Calls.{in-range, left, refuse, checked, finished}
 use Rattle.sums.specs.Calls.{pair-checked, pair-call, Means, Answered}
 use Rattle.sums.proofs.CallEnds.{does-made, does-range, does-unsound, does-fine}
 

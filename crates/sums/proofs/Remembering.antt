@@ -1,12 +1,12 @@
 -- Sums that are remembered, in either order.
 use Prim.Native.Nat.{ℕ, suc, _+_, _*_, _<_}
-use mathlib.Core.Path.{_≡_, sym, ap, _∙_}
+use mathlib.Core.Path.{_≡_, _∙_}
 use mathlib.Core.Bool.{xor}
 use mathlib.Core.List.{List}
 use native.Mathlib.Omega.{arith}
 use lib.ListN.{length}
 use Rattle.steps.specs.Rows.{Rows, value}
-use Rattle.steps.specs.Steps.{Steps, answer, sum}
+use Rattle.steps.specs.Steps.{answer, sum}
 use Rattle.steps.specs.Table.{Slices, rows-of}
 use Rattle.steps.proofs.Table.{rows-of-next}
 use Rattle.steps.proofs.Sum.{sums-left-0, sums-right-0, sums-same}

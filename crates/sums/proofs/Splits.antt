@@ -1,12 +1,12 @@
 -- Two numbers taken apart at the lesser of their roots: what their parts are, and that the sum's steps go by them.
-use Prim.Native.Nat.{ℕ, suc, _+_, _-_, _<_, _≤_, min}
-use mathlib.Core.Path.{_≡_, refl, sym, ap, subst, _∙_}
+use Prim.Native.Nat.{ℕ, _<_, min}
+use mathlib.Core.Path.{_≡_, sym, subst, _∙_}
 use native.Mathlib.Omega.{arith}
 use native.Mathlib.Nat.{le-min, min-eq-left, min-eq-right}
 use Rattle.steps.specs.Rows.{Row, row-of, Rows, next, row, root}
 use Rattle.steps.specs.Sound.{Sound}
-use Rattle.steps.specs.Steps.{Steps, answer, _>>=_, make, sum}
-use Rattle.steps.proofs.Rows.{Node, node, Cut, next-2, row-const}
+use Rattle.steps.specs.Steps.{_>>=_, make, sum}
+use Rattle.steps.proofs.Rows.{node, next-2, row-const}
 use Rattle.steps.proofs.Compare.{Kind, const, inner, kind}
 use Rattle.steps.proofs.Roots.{root-le, node-below}
 use Rattle.steps.proofs.Sum.{sums-left-0, sums-right-0}

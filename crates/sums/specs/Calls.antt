@@ -2,7 +2,7 @@
 -- Assumes nothing: these are definitions.
 use Prim.Native.Nat.{ℕ}
 use mathlib.Core.Path.{_≡_}
-use mathlib.Core.Bool.{Bool, true, false, _&&_}
+use mathlib.Core.Bool.{Bool, _&&_}
 use Rattle.steps.specs.Rows.{Assignment, value}
 use Rattle.steps.specs.Sound.{sound}
 use Rattle.steps.specs.Table.{Slices, rows-of}

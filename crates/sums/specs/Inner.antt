@@ -4,7 +4,7 @@ use Prim.Native.Nat.{ℕ, _+_, _-_, _<_, min}
 use mathlib.Core.Path.{_≡_}
 use mathlib.Core.List.{List}
 use Rattle.steps.specs.Rows.{Rows, row, root}
-use Rattle.steps.specs.Table.{Slices, rows-of}
+use Rattle.steps.specs.Table.{Slices}
 use Rattle.table.specs.Lent.{Lent}
 use Rattle.table.specs.Memory.{key-of, Live}
 

@@ -2,7 +2,6 @@
 use table::Row;
 use table::Var;
 use table::rows::row_of;
-ghost use mathlib.Core.Path.{_≡_};
 ghost use Rattle.steps.specs.Table.{slices, rows-of};
 ghost use Rattle.sums.specs.Inner.{InUse, Split};
 

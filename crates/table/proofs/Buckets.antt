@@ -1,13 +1,13 @@
 -- The sizes of the index, its buckets, and the newest row of a bucket.
-use Prim.Native.Nat.{ℕ, zero, suc, _+_, _%_, _<_, _≤_}
-use mathlib.Core.Path.{_≡_, refl, sym, ap, _∙_}
-use mathlib.Core.Bool.{Bool, true, false, cond}
+use Prim.Native.Nat.{ℕ, suc, _<_, _≤_}
+use mathlib.Core.Path.{_≡_, refl, ap, _∙_}
+use mathlib.Core.Bool.{Bool, true, false}
 use native.Mathlib.Omega.{arith}
 use native.Mathlib.Nat.{mod-lt}
 use lib.Dec.{eqb, ltb}
-use borrow.Author.Tests.{lt-ltb, le-ltb, eq-eqb, ne-eqb, eqb-true, eqb-false, ltb-true, ltb-false}
+use borrow.Author.Tests.{lt-ltb, le-ltb, eq-eqb, ne-eqb, eqb-true, eqb-false, ltb-false}
 use Rattle.steps.specs.Rows.{Row, Rows, none, _▹_, next, alike, find}
-use Rattle.steps.proofs.Rows.{_≼_, stop, more, next-2, next-grows}
+use Rattle.steps.proofs.Rows.{_≼_, stop, more}
 use Rattle.steps.proofs.Found.{alike-true, find-other}
 use Rattle.table.specs.Index.{index-size, index-words, hash, bucket, newest-in}
 

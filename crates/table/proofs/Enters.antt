@@ -1,10 +1,10 @@
 -- What Make comes to, with the index.
-use Prim.Native.Nat.{ℕ, zero, suc, _+_, _<_, _≤_}
-use mathlib.Core.Path.{_≡_, refl, sym, ap, subst, _∙_}
+use Prim.Native.Nat.{ℕ, zero, suc, _<_, _≤_}
+use mathlib.Core.Path.{_≡_, ap, subst}
 use mathlib.Core.List.{List}
 use native.Mathlib.Omega.{arith}
 use lib.ListN.{length}
-use Rattle.steps.specs.Rows.{Row as Triple, row-of, Rows, _▹_, count, find}
+use Rattle.steps.specs.Rows.{row-of, Rows, _▹_, count, find}
 use Rattle.steps.specs.Table.{Slices, slices, rows-of}
 use Rattle.steps.specs.Steps.{Answer, Steps, answer, append, make}
 use Rattle.steps.proofs.Ok.{make-0, make-found, make-new}
@@ -12,7 +12,6 @@ use Rattle.steps.proofs.Table.{rows-of-count}
 use Rattle.table.specs.declared.Row.{Row}
 use Rattle.table.specs.declared.make.Made.{Made}
 use Rattle.table.specs.declared.make.Made.the-variants.{At, Full}
-use Rattle.table.specs.Lent.{room, Lent}
 use Rattle.table.specs.Index.{index-words, Chains, Apart, Indexed, enter, Linkable, Front}
 use Rattle.table.specs.Inner.{Taken, IndexOf, Entered}
 use Rattle.table.proofs.Links.{linkable, enter-front, enter-chains, front-refl}

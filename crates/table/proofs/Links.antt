@@ -1,7 +1,6 @@
 -- A row entered into the index.
-use Prim.Native.Nat.{ℕ, zero, suc, _+_, _*_, _-_, _/_, _%_, _<_, _≤_}
+use Prim.Native.Nat.{ℕ, _+_, _*_, _-_, _/_, _%_, _<_, _≤_}
 use mathlib.Core.Path.{_≡_, refl, sym, ap, _∙_}
-use mathlib.Core.Bool.{cond}
 use mathlib.Core.List.{List}
 use native.Mathlib.Omega.{arith}
 use native.Mathlib.Nat.{mod-lt}
@@ -9,13 +8,10 @@ use native.Mathlib.Decide.{ℕ-discrete}
 use lib.ListN.{length, getD, set, drop, length-set}
 use lib.Seq.{getD-drop, getD-set-same, getD-set-other, drop-set-lt}
 use borrow.Author.Tests.{eq-eqb, ne-eqb}
-use Rattle.steps.specs.Rows.{Row, Rows, none, _▹_, count, next, find}
-use Rattle.steps.specs.Table.{Slices, rows-of}
+use Rattle.steps.specs.Rows.{Row, Rows, none, _▹_, count}
 use Rattle.steps.proofs.Rows.{next-count}
-use Rattle.steps.proofs.Table.{rows-of-count}
-use Rattle.table.specs.Lent.{room, Lent}
-use Rattle.table.specs.Index.{index-words, bucket, newest-in, Followed, Chains, Apart, Indexed, link, enter, Linkable, Front}
-use Rattle.table.proofs.Buckets.{Spans, spans, spans-fits, spans-room, spans-bucket, newest-here, newest-other, newest-none, newest-below}
+use Rattle.table.specs.Index.{index-words, bucket, newest-in, Followed, Chains, link, enter, Linkable, Front}
+use Rattle.table.proofs.Buckets.{Spans, spans, spans-fits, spans-room, spans-bucket, newest-here, newest-other, newest-below}
 
 -- words of two halves
 pub pack-high : (a l : ℕ) → l < 65536 → (a * 65536 + l) / 65536 ≡ a

@@ -1,24 +1,23 @@
 -- How taken steps are put together.
-use Prim.Native.Nat.{ℕ, zero, suc, _+_, _-_, _<_, _≤_}
-use mathlib.Core.Path.{_≡_, refl, sym, ap, subst, _∙_}
+use Prim.Native.Nat.{ℕ, _+_, _-_, _<_, _≤_}
+use mathlib.Core.Path.{_≡_, refl, sym, ap, _∙_}
 use mathlib.Core.List.{List}
 use native.Mathlib.Omega.{arith}
 use native.Mathlib.Numerals.{add-one}
-use lib.ListN.{length, getD, set, drop, length-set}
+use lib.ListN.{length, set, drop, length-set}
 use lib.Seq.{drop-set-lt, drop-drop, getD-set-other}
-use Rattle.steps.specs.Rows.{Row as Triple, row-of, Rows, none, _▹_, count, next, find}
+use Rattle.steps.specs.Rows.{row-of, count}
 use Rattle.steps.specs.Table.{Slices, slices, rows-of}
-use Rattle.steps.specs.Steps.{Steps, answer, append, _>>=_, make}
-use Rattle.steps.specs.Room.{Ending, made, full, within}
+use Rattle.steps.specs.Steps.{Steps, answer, append, _>>=_}
+use Rattle.steps.specs.Room.{Ending, within}
 use Rattle.steps.proofs.Keeps.{Keeps}
 use Rattle.steps.proofs.Room.{within-made, within-full, within-tells, then-within, within-bind}
-use Rattle.steps.proofs.Rows.{next-count}
 use Rattle.steps.proofs.Table.{rows-of-count, rows-of-next, rows-of-agree, rows-of-less, rows-of-push}
 use Rattle.table.specs.declared.Row.{Row}
 use Rattle.table.specs.declared.make.Made.{Made}
 use Rattle.table.specs.declared.make.Made.the-variants.{At, Full}
 use Rattle.table.specs.Lent.{room, Lent}
-use Rattle.table.specs.Inner.{said, Beyond, Rest, Taken}
+use Rattle.table.specs.Inner.{Beyond, Rest, Taken}
 
 -- the same steps under another name
 pub taken-by : {m n : Steps} {r : Made} {c : ℕ} {s s′ : Slices} → m (rows-of s c) ≡ n (rows-of s c) → Taken n r c s s′ → Taken m r c s s′

@@ -1,17 +1,17 @@
 -- The walk down a bucket finds what the definition finds.
-use Prim.Native.Nat.{ℕ, zero, suc, _+_, _-_, _/_, _%_, _<_, _≤_}
+use Prim.Native.Nat.{ℕ, suc, _+_, _-_, _/_, _%_, _<_, _≤_}
 use mathlib.Core.Path.{_≡_, refl, sym, ap, _∙_}
-use mathlib.Core.Bool.{Bool, true, false}
+use mathlib.Core.Bool.{true, false}
 use mathlib.Core.List.{List}
 use native.Mathlib.Omega.{arith}
 use lib.ListN.{length, getD}
-use Rattle.steps.specs.Rows.{Row, Rows, none, _▹_, count, next, alike, find, row}
+use Rattle.steps.specs.Rows.{Row, Rows, _▹_, count, next, alike, find, row}
 use Rattle.steps.specs.Table.{Slices, row-at, rows-of}
 use Rattle.steps.proofs.Rows.{_≼_, stop, more, ≼-trans, next-2, next-grows, next-count, row-keeps, row-newest}
-use Rattle.steps.proofs.Table.{rows-of-next, rows-of-count, rows-of-row, rows-of-part}
+use Rattle.steps.proofs.Table.{rows-of-next, rows-of-row, rows-of-part}
 use Rattle.steps.proofs.Found.{alike-true, find-newest, find-keeps, find-other}
 use native.Mathlib.Numerals.{add-one}
-use Rattle.table.specs.Lent.{room, Lent}
+use Rattle.table.specs.Lent.{room}
 use Rattle.table.specs.Index.{index-words, bucket, newest-in, Followed, Chains, Apart, Indexed}
 use Rattle.table.proofs.Buckets.{Spans, spans, spans-fits, spans-room, spans-bucket, Newest, nowhere, at, newest, newest-below}
 

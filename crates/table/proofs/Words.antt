@@ -1,27 +1,26 @@
 -- Remembered results: what stands in the words behind the index.
-use Prim.Native.Nat.{ℕ, zero, suc, _+_, _*_, _-_, _/_, _%_, _<_, _≤_}
-use mathlib.Core.Path.{_≡_, refl, sym, ap, subst, _∙_}
-use mathlib.Core.Bool.{Bool, true, false, cond, _&&_}
+use Prim.Native.Nat.{ℕ, _+_, _*_, _-_, _/_, _%_, _<_, _≤_}
+use mathlib.Core.Path.{_≡_, refl, sym, ap, _∙_}
+use mathlib.Core.Bool.{Bool, true, false}
 use mathlib.Core.List.{List}
 use native.Mathlib.Omega.{arith}
 use native.Mathlib.Nat.{mod-lt}
 use native.Mathlib.Decide.{ℕ-discrete}
 use lib.Dec.{eqb, ltb, leb}
-use lib.ListN.{length, getD, set, drop, length-set}
+use lib.ListN.{length, getD, set, length-set}
 use lib.Seq.{getD-set-same, getD-set-other, drop-set-lt}
-use borrow.Author.Tests.{lt-ltb, le-ltb, le-leb, lt-leb, eq-eqb, ne-eqb, eqb-true, eqb-false, ltb-true, ltb-false, leb-true, leb-false}
-use Rattle.steps.specs.Rows.{Rows, count, next}
+use borrow.Author.Tests.{ne-eqb, eqb-true, eqb-false, ltb-false}
+use Rattle.steps.specs.Rows.{Rows}
 use Rattle.steps.specs.Sound.{Sound}
-use Rattle.steps.specs.Steps.{Answer, Steps, answer, sum, product, normal}
+use Rattle.steps.specs.Steps.{Steps, answer, sum, product, normal}
 use Rattle.steps.specs.Table.{Slices, rows-of}
-use Rattle.steps.proofs.Rows.{_≼_, next-grows, next-count}
-use Rattle.steps.proofs.Table.{rows-of-count, rows-of-next}
+use Rattle.steps.proofs.Rows.{_≼_, next-grows}
+use Rattle.steps.proofs.Table.{rows-of-count}
 use Rattle.steps.proofs.Theorems.{Right, remembered, sum-right, product-right, normal-right}
 use Rattle.table.specs.declared.Row.{Row}
-use Rattle.table.specs.declared.make.Made.{Made}
-use Rattle.table.specs.declared.make.Made.the-variants.{At, Full}
-use Rattle.table.specs.Lent.{room, Lent}
-use Rattle.table.specs.Index.{index-size, index-words, Chains, Indexed, Front}
+use Rattle.table.specs.declared.make.Made.the-variants.{At}
+use Rattle.table.specs.Lent.{room}
+use Rattle.table.specs.Index.{index-size, index-words, Front}
 use Rattle.table.specs.Memory.{memory-size, Size, large, middle, least, reach, steps-of, key-of, Remembered, Words, Live, Stands, Written, nothing, word, Behind}
 use Rattle.table.specs.Inner.{Entered}
 use Rattle.table.proofs.Buckets.{index-room}

@@ -1,16 +1,14 @@
 -- What the public calls on a table share: the order of the checks, and what a call that may append leaves.
 -- Assumes nothing: these are definitions.
-use Prim.Native.Nat.{ℕ, zero, suc, _+_, _-_, _<_, _≤_}
-use mathlib.Core.Path.{_≡_}
-use mathlib.Core.Bool.{Bool, true, false, _&&_, not}
+use Prim.Native.Nat.{ℕ, _+_, _-_}
+use mathlib.Core.Bool.{Bool, true, false, _&&_}
 use mathlib.Core.List.{List, [], _∷_, _++_}
 use lib.Dec.{eqb, leb, ltb}
-use lib.ListN.{length, getD, take, drop, replicate}
-use Rattle.steps.specs.Rows.{Row, Rows, none, _▹_, count, Assignment, value, most-variables}
+use lib.ListN.{length, take, drop, replicate}
+use Rattle.steps.specs.Rows.{Row, Rows, none, _▹_, count, most-variables}
 use Rattle.steps.specs.Sound.{sound}
 use Rattle.steps.specs.Table.{Slices, slices, rows-of, most-rows}
-use Rattle.steps.specs.Steps.{Steps, make}
-use Rattle.steps.specs.One.{one, NotGreater}
+use Rattle.steps.specs.Steps.{Steps}
 use Rattle.steps.specs.Room.{Ending, made, full, within}
 use Rattle.table.specs.declared.Answer.{Answer}
 use Rattle.table.specs.declared.Answer.the-variants.{Made, Refused}

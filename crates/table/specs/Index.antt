@@ -2,9 +2,9 @@
 -- Word b holds, in its bits from 16 up, the number of the newest row of bucket b; word k holds, in its low 16 bits, the number of the newest
 -- row before row k in row k's bucket. 0 stands for none.
 -- Assumes nothing: these are definitions.
-use Prim.Native.Nat.{ℕ, zero, suc, _+_, _*_, _/_, _%_, _<_, _≤_}
+use Prim.Native.Nat.{ℕ, _+_, _*_, _/_, _%_, _<_, _≤_}
 use mathlib.Core.Path.{_≡_}
-use mathlib.Core.Bool.{Bool, true, false, cond}
+use mathlib.Core.Bool.{cond}
 use mathlib.Core.List.{List}
 use lib.ListN.{length, getD, set, drop}
 use lib.Dec.{eqb, ltb}

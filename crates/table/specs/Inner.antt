@@ -1,6 +1,6 @@
 -- What the inner functions promise.
 -- Assumes nothing: these are definitions.
-use Prim.Native.Nat.{ℕ, _+_, _<_, _≤_}
+use Prim.Native.Nat.{ℕ, _<_, _≤_}
 use mathlib.Core.Path.{_≡_}
 use mathlib.Core.List.{List}
 use lib.ListN.{length, drop}
@@ -12,7 +12,7 @@ use Rattle.table.specs.declared.index.Found.{Found}
 use Rattle.table.specs.declared.index.Found.the-variants.{At as Found-at, Nothing}
 use Rattle.table.specs.declared.make.Made.{Made}
 use Rattle.table.specs.declared.make.Made.the-variants.{At, Full}
-use Rattle.table.specs.Lent.{room, Lent}
+use Rattle.table.specs.Lent.{room}
 use Rattle.table.specs.Index.{Indexed, Front}
 use Rattle.table.specs.Memory.{Live, Behind}
 

@@ -3,7 +3,7 @@ use crate::Row;
 use crate::rows::Node;
 use crate::rows::is_row;
 ghost use mathlib.Core.Path.{_≡_};
-ghost use Prim.Native.Nat.{_<_, _≤_, _/_, _%_};
+ghost use Prim.Native.Nat.{_<_, _/_, _%_};
 ghost use lib.ListN.{length, getD};
 ghost use Rattle.steps.specs.Rows.{row-of};
 ghost use Rattle.steps.specs.Table.{slices, rows-of};

@@ -20,7 +20,7 @@ use Rattle.steps.proofs.Rows.{_≼_, stop, ≼-trans, next-2, value-0, value-1,
 use Rattle.steps.proofs.Solve.{solve-node, solve-const}
 use Rattle.aiger.specs.Form.{Gate, if_then_else_}
 use Rattle.aiger.specs.Meaning.{literal, run}
-use Rattle.aiger.proofs.Accepted.{Ascending}
+use Rattle.aiger.specs.Accepted.{Ascending}
 use Rattle.verdicts.specs.Systems.{literal-steps, gate-steps, build, output-steps}
 use Rattle.verdicts.proofs.Rings.{values-at, values-0, values-inside, gate-value, run-ring, values-run}
 
@@ -60,9 +60,6 @@ module _ (N : ℕ) where
 
   pub keeps-reduce : (l F : ℕ) → Keeps (literal-steps N l >>= λ p. normal N p F)
   keeps-reduce l F = keeps-bind (literal-steps N l) (λ p. normal N p F) (keeps-literal l) (λ p. keeps-normals N (suc N) p F)
-
-  pub keeps-output : (gs : List Gate) (l : ℕ) → Keeps (output-steps N gs l)
-  keeps-output gs l = keeps-bind (build N gs 1) (λ F. literal-steps N l >>= λ p. normal N p F) (keeps-build gs 1) (keeps-reduce l)
 
   -- a literal
 

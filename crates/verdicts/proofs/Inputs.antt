@@ -1,7 +1,7 @@
 -- The values of an accepted net's variables come from its inputs alone.
 use Prim.Native.Nat.{ℕ, zero, suc, _+_, _*_, _-_, _/_, _<_, _≤_}
 use mathlib.Core.Path.{_≡_, refl, sym, ap, _∙_, fun-ext}
-use mathlib.Core.Bool.{Bool, true, false, _&&_, _||_}
+use mathlib.Core.Bool.{Bool, true, false}
 use mathlib.Core.List.{List, [], _∷_, _++_, map}
 use native.Mathlib.Omega.{arith}
 use lib.Dec.{eqb}
@@ -10,9 +10,9 @@ use borrow.Author.Tests.{eqb-true, eqb-false}
 use Rattle.steps.specs.One.{put}
 use Rattle.steps.specs.Rows.{Assignment}
 use Rattle.aiger.specs.Form.{if_then_else_}
-use Rattle.aiger.specs.Meaning.{Values, literal, assign, feed, run, values}
+use Rattle.aiger.specs.Meaning.{Values, literal, assign, feed, run}
 use Rattle.aiger.specs.Net.{Net, defined, lefts}
-use Rattle.aiger.proofs.Accepted.{News, Knowns, Accepted}
+use Rattle.aiger.specs.Accepted.{News, Knowns, Accepted}
 use Rattle.aiger.proofs.Valued.{Agree, valuesOf, gates-agree, inputs-valued}
 use Rattle.verdicts.specs.Patterns.{pattern-of, given}
 use Rattle.verdicts.proofs.Rings.{values-at, values-0, values-inside, values-beyond, ring-of, values-ring, values-put, Place, constant, inside, beyond, place}

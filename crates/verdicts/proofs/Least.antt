@@ -11,9 +11,10 @@ use Rattle.steps.proofs.Compare.{Order, less as lower, equal as level, greater 
 use Rattle.steps.proofs.Occurs.{free-occurs, one-absent}
 use Rattle.steps.proofs.One.{found-one, least-one}
 use Rattle.steps.proofs.Rows.{value-0}
-use Rattle.aiger.specs.Meaning.{Values, literal, run, values, outputs}
+use Rattle.aiger.specs.Meaning.{Values, literal, run, values}
 use Rattle.aiger.specs.Net.{Net, defined}
-use Rattle.aiger.proofs.Accepted.{Accepted, gates-ascending}
+use Rattle.aiger.specs.Accepted.{Accepted}
+use Rattle.aiger.proofs.Accepted.{gates-ascending}
 use Rattle.verdicts.specs.Patterns.{pattern-of, output-value, given, NotGreater, same, less}
 use Rattle.verdicts.specs.Verdicts.{output-rows}
 use Rattle.verdicts.proofs.Building.{Stands, reduced}

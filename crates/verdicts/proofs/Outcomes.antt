@@ -11,12 +11,12 @@ use borrow.Author.Tests.{eqb-true, eqb-false, eq-eqb, ne-eqb, ltb-true, ltb-fals
 use Rattle.steps.specs.One.{one}
 use Rattle.steps.specs.Room.{made, within}
 use Rattle.steps.specs.Rows.{Row, Rows, none, _▹_, count}
-use Rattle.steps.specs.Steps.{Answer as StepsAnswer, answer}
+use Rattle.steps.specs.Steps.{Answer as StepsAnswer}
 use Rattle.steps.specs.Table.{Slices, slices, rows-of}
 use Rattle.steps.proofs.Room.{Fit, fits, over, fit}
 use Rattle.table.specs.Lent.{room}
 use Rattle.table.specs.Calls.{column, laid}
-use Rattle.aiger.specs.Net.{Got, got, refused, Net, circuit}
+use Rattle.aiger.specs.Net.{Got, got, Net, circuit}
 use Rattle.verdicts.specs.Calls.{Answer, refusal, Left, refuse, lengths-fine, end-with, judge, judge-read, circuit-call}
 use Rattle.verdicts.specs.Patterns.{pattern-of}
 use Rattle.verdicts.specs.Verdicts.{never, can, room-out, judged, verdict-of}

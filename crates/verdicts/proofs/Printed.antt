@@ -6,11 +6,10 @@ use mathlib.Core.List.{List, [], _∷_}
 use lib.Dec.{eqb}
 use Rattle.steps.specs.One.{put, one}
 use Rattle.steps.specs.Room.{within}
-use Rattle.steps.specs.Rows.{count, next, value, row, find}
+use Rattle.steps.specs.Rows.{count, next, value, row, find, bit}
 use Rattle.steps.specs.Steps.{make, sums, products, normals}
 use Rattle.aiger.specs.Net.{Net}
 use Rattle.verdicts.specs.Systems.{literal-steps, build}
-use Rattle.verdicts.specs.Patterns.{byte}
 use Rattle.verdicts.specs.Verdicts.{Verdict, never, can, room-out, verdict-of}
 
 -- "6 2 5" and "8 6 4", with the outputs 8 and 6
@@ -25,7 +24,7 @@ printed = record {
 -- the verdict's number, with its pattern's digits behind a 1
 abbrev digits : List Bool → ℕ → ℕ
 digits [] n = n
-digits (b ∷ q) n = digits q (n * 10 + byte b)
+digits (b ∷ q) n = digits q (n * 10 + bit b)
 
 abbrev number : Verdict → ℕ
 number (never R) = 0

@@ -11,7 +11,7 @@ use Rattle.steps.specs.Rows.{Assignment}
 use Rattle.steps.proofs.Put.{put-same, put-other}
 use Rattle.aiger.specs.Form.{Gate, if_then_else_}
 use Rattle.aiger.specs.Meaning.{Values, literal, assign, run}
-use Rattle.aiger.proofs.Accepted.{Ascending}
+use Rattle.aiger.specs.Accepted.{Ascending}
 
 -- a circuit's variable: the constants', one of the ring's, or one that no line can name
 pub data Place (M v : ℕ) : Type 0 where

@@ -6,16 +6,17 @@ use mathlib.Core.List.{List, [], _∷_}
 use native.Mathlib.Omega.{arith}
 use lib.Dec.{eqb, ltb}
 use lib.ListN.{length, length-map}
-use Rattle.steps.specs.Rows.{Rows}
+use Rattle.steps.specs.Rows.{Rows, bit}
 use Rattle.steps.specs.One.{one}
 use Rattle.steps.specs.Table.{Slices, rows-of}
 use Rattle.table.specs.Lent.{room}
 use Rattle.table.specs.Calls.{unless_then_else_, laid, cleared}
 use Rattle.aiger.specs.Net.{Got, got, refused, Net, circuit}
-use Rattle.aiger.proofs.Accepted.{Accepted, accepted}
+use Rattle.aiger.specs.Accepted.{Accepted}
+use Rattle.aiger.proofs.Accepted.{accepted}
 use Rattle.verdicts.specs.Calls.{Answer, verdict-0, verdict-1, verdict-2, refusal, rows-made, Left, left, refuse, lengths-fine, end-with, judge-read, circuit-call}
 use Rattle.verdicts.specs.Systems.{ring}
-use Rattle.verdicts.specs.Patterns.{pattern-of, byte, bytes, bits, output-value, NotGreater}
+use Rattle.verdicts.specs.Patterns.{pattern-of, bytes, bits, output-value, NotGreater}
 use Rattle.verdicts.specs.Verdicts.{Verdict, never, can, room-out, output-rows, rows-needed, verdict-of}
 use Rattle.verdicts.proofs.Least.{form-0, form-1, found-least}
 use Rattle.verdicts.proofs.Outcomes.{call-lengths, call-read, Passed, call-passes, passed, Case, zero-found, one-found, no-room, case, laid-rows}
@@ -39,13 +40,13 @@ pub record Witness (net : Net) (o : ℕ) (b : List ℕ) : Type 0 where
 
 -- a byte and back
 
-byte-bit : (x : Bool) → eqb (byte x) 1 ≡ x
-byte-bit true = refl
-byte-bit false = refl
+bit-read : (x : Bool) → eqb (bit x) 1 ≡ x
+bit-read true = refl
+bit-read false = refl
 
 bits-bytes : (q : List Bool) → bits (bytes q) ≡ q
 bits-bytes [] = refl
-bits-bytes (x ∷ q) = rw (byte-bit x, bits-bytes q)
+bits-bytes (x ∷ q) = rw (bit-read x, bits-bytes q)
 
 -- the ways in which a call on an accepted text ends
 
@@ -126,7 +127,7 @@ module _ (text : List ℕ) (net : Net) (rest : List ℕ) (reads : circuit text �
       let q : List Bool = pattern-of net (one R k) in
       subst (Witness net o) (sym (w .1 .1)) (record {
         zeros-and-ones = ap bytes (bits-bytes q);
-        long = length-map q byte ∙ length-map (net .inputs) (λ l. one R k (ring (net .M) (l / 2)));
+        long = length-map q bit ∙ length-map (net .inputs) (λ l. one R k (ring (net .M) (l / 2)));
         makes-1 = ap (λ (b : List Bool). output-value net b o) (bits-bytes q) ∙ form-1 ok o (w .0 .there) (w .1 .0);
       })
 

@@ -6,7 +6,7 @@ use mathlib.Core.Bool.{Bool, true, false}
 use mathlib.Core.List.{List, map}
 use lib.Dec.{eqb}
 use lib.ListN.{getD}
-use Rattle.steps.specs.Rows.{Assignment}
+use Rattle.steps.specs.Rows.{Assignment, bit}
 use Rattle.aiger.specs.Meaning.{Values, feed, outputs}
 use Rattle.aiger.specs.Net.{Net}
 use Rattle.verdicts.specs.Systems.{ring}
@@ -16,12 +16,8 @@ abbrev pub pattern-of : Net → Assignment → List Bool
 pattern-of net a = map (λ l. a (ring (net .M) (l / 2))) (net .inputs)
 
 -- "one byte for each input in file order"
-abbrev pub byte : Bool → ℕ
-byte true = 1
-byte false = 0
-
 abbrev pub bytes : List Bool → List ℕ
-bytes = map byte
+bytes = map bit
 
 -- and back
 abbrev pub bits : List ℕ → List Bool

@@ -1,4 +1,3 @@
-use mathlib.Core.Path.{_≡_}
 use Rattle.circuit.proofs.Verdicts.{ends-without-room, ends-never, ends-can, pattern-asks}
 use borrow.Author.Needs.{needs}
 use Rattle.circuit.proofs.ended.Statement.{statement}

@@ -1,6 +1,5 @@
 use native.Mathlib.Omega.{arith}
-use Prim.Native.Nat.{_-_, _+_}
-use mathlib.Core.Path.{sym}
+use Prim.Native.Nat.{_-_}
 use borrow.Author.Needs.{needs}
 use Rattle.steps.specs.Table.{slices}
 use Rattle.leads.proofs.Filling.{from-fits, table-fits, no-table, Filling, fill-none, fill-starts, fill-ends, fill-asks, fill-there, fill-goes-on}

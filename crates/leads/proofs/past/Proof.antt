@@ -1,6 +1,5 @@
 use Rattle.leads.proofs.Walking.{is-past, is-at-lead}
 use native.Mathlib.Omega.{arith}
-use borrow.Author.Needs.{needs}
 use Rattle.leads.proofs.past.Statement.{statement}
 use Rattle.leads.proofs.past.Tie as tie
 use Rattle.leads.proofs.past.Reads as reads

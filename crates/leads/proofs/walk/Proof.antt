@@ -1,4 +1,3 @@
-use native.Mathlib.Omega.{arith}
 use Prim.Native.Nat.{_-_}
 use Rattle.steps.specs.Table.{slices, rows-of}
 use Rattle.leads.proofs.Walking.{Walked, walk-asks, walk-starts, walk-ends, walk-on-asks, walk-falls, walk-goes-on}

@@ -1,4 +1,3 @@
-use mathlib.Core.Path.{_≡_, refl, sym, ap, _∙_}
 use Rattle.checks.proofs.Endings.{fine-live}
 use Rattle.numbers.proofs.Exits.{one-length, one-range, one-unsound, one-fine, live-lasts}
 use borrow.Author.Needs.{needs}

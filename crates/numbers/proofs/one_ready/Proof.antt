@@ -1,5 +1,3 @@
-use mathlib.Core.Path.{_≡_, refl, sym, ap, _∙_}
-use borrow.Author.Tests.{lt-ltb, le-ltb, eq-eqb, ne-eqb}
 use Rattle.numbers.proofs.Exits.{one-out, one-zero, one-found}
 use borrow.Author.Needs.{needs}
 use Rattle.numbers.proofs.one_ready.Statement.{statement}

@@ -1,4 +1,3 @@
-use mathlib.Core.Path.{_≡_, refl, sym, ap, _∙_}
 use Rattle.checks.proofs.Endings.{fine-live}
 use Rattle.numbers.proofs.Exits.{value-length, value-range, value-unsound, value-fine, live-lasts}
 use borrow.Author.Needs.{needs}

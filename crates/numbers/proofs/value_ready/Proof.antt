@@ -1,4 +1,4 @@
-use mathlib.Core.Path.{_≡_, refl, sym, ap, _∙_}
+use mathlib.Core.Path.{_∙_}
 use borrow.Author.Tests.{not-true, not-false}
 use Rattle.numbers.proofs.Exits.{value-out, value-bits, value-is}
 use borrow.Author.Needs.{needs}

@@ -1,6 +1,3 @@
-use mathlib.Core.Path.{_≡_, refl, sym, ap, _∙_}
-use Rattle.steps.specs.Rows.{Row as Triple}
-use Rattle.table.specs.Index.{enter}
 use Rattle.checks.proofs.Checking.{row-linkable, entered-is}
 use borrow.Author.Needs.{needs}
 use Rattle.checks.proofs.check.enter_row.Statement.{statement}

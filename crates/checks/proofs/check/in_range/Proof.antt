@@ -1,4 +1,4 @@
-use borrow.Author.Tests.{lt-ltb, le-ltb, le-leb, lt-leb, eq-eqb, ne-eqb}
+use borrow.Author.Tests.{le-leb, lt-leb, eq-eqb, ne-eqb}
 use Rattle.table.specs.Calls.{in-range}
 use Rattle.checks.proofs.check.in_range.Statement.{statement}
 use Rattle.checks.proofs.check.in_range.Tie as tie

@@ -1,8 +1,6 @@
-use mathlib.Core.Path.{_≡_, sym, ap, _∙_}
+use mathlib.Core.Path.{ap, _∙_}
 use borrow.Author.Tests.{not-true, not-false}
-use Rattle.steps.specs.Rows.{row-of}
-use Rattle.table.specs.Inner.{number-of, Some}
-use Rattle.table.specs.declared.index.Found.{Found}
+use Rattle.table.specs.Inner.{number-of}
 use Rattle.checks.proofs.Checking.{fits-not, fits-twice, fits-all}
 use borrow.Author.Needs.{needs}
 use Rattle.checks.proofs.check.row_fits.Statement.{statement}

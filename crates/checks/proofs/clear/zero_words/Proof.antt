@@ -1,8 +1,6 @@
 use Prim.Native.Nat.{_≤_, _-_}
-use mathlib.Core.Path.{_≡_, refl, _∙_}
+use mathlib.Core.Path.{refl}
 use native.Mathlib.Omega.{arith}
-use borrow.Author.Needs.{needs}
-use lib.ListN.{length}
 use Rattle.checks.proofs.Zeros.{Filled, zeros-more, zeros-upto}
 use Rattle.checks.proofs.clear.zero_words.Statement.{statement}
 use Rattle.checks.proofs.clear.zero_words.Tie as tie

@@ -1,4 +1,3 @@
-use Prim.Native.Nat.{ℕ}
 use borrow.Author.Needs.{needs}
 use native.Mathlib.Omega.{arith}
 use Rattle.steps.specs.Table.{slices}

@@ -1,5 +1,5 @@
 use Rattle.sums.proofs.Keeping.{kept-is}
-use Rattle.gates.proofs.Joining.{joined-asks, joined-full, equation-asks, joined-made}
+use Rattle.gates.proofs.Joining.{joined-full, equation-asks, joined-made}
 use borrow.Author.Needs.{needs}
 use Rattle.gates.proofs.system.joined.Statement.{statement}
 use Rattle.gates.proofs.system.joined.Tie as tie

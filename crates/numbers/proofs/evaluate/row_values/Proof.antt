@@ -1,8 +1,6 @@
 use Prim.Native.Nat.{_≤_, _-_}
-use mathlib.Core.Path.{_≡_, refl, sym, ap, _∙_}
+use mathlib.Core.Path.{sym, _∙_}
 use native.Mathlib.Omega.{arith}
-use borrow.Author.Needs.{needs}
-use lib.ListN.{length}
 use Rattle.steps.specs.Table.{slices}
 use Rattle.numbers.specs.Inner.{Evaluated}
 use Rattle.numbers.proofs.Values.{evaluated-next, evaluated-upto}

@@ -1,5 +1,4 @@
-use mathlib.Core.Path.{_≡_, refl, sym, ap, _∙_}
-use native.Mathlib.Omega.{arith}
+use mathlib.Core.Path.{refl}
 use Rattle.numbers.proofs.Values.{value-const, value-read}
 use borrow.Author.Needs.{needs}
 use Rattle.numbers.proofs.evaluate.value_at.Statement.{statement}

@@ -1,5 +1,3 @@
-use mathlib.Core.Path.{_≡_, refl, sym, ap, _∙_}
-use lib.ListN.{length, length-replicate}
 use Rattle.numbers.proofs.Ones.{lasting-zeros, zeros-again, found-in}
 use borrow.Author.Needs.{needs}
 use Rattle.numbers.proofs.seek.one_of.Statement.{statement}

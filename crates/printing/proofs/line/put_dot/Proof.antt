@@ -1,5 +1,4 @@
 use Rattle.printing.proofs.Puts.{put-then}
-use native.Mathlib.Omega.{arith}
 use borrow.Author.Needs.{needs}
 use Rattle.printing.proofs.line.put_dot.Statement.{statement}
 use Rattle.printing.proofs.line.put_dot.Tie as tie

@@ -1,4 +1,3 @@
-use mathlib.Core.Path.{_≡_, refl, sym, ap, _∙_}
 use native.Mathlib.Omega.{arith}
 use Rattle.sums.proofs.Splits.{is-less, is-more, is-both}
 use borrow.Author.Needs.{needs}

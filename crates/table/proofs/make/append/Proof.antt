@@ -1,4 +1,3 @@
-use native.Mathlib.Omega.{arith}
 use Rattle.table.proofs.Takes.{append-full, append-room}
 use borrow.Author.Needs.{needs}
 use Rattle.table.proofs.make.append.Statement.{statement}

@@ -1,5 +1,4 @@
 use mathlib.Core.Path.{_∙_, ap, subst}
-use Rattle.table.specs.declared.index.Found.{Found}
 use Rattle.table.specs.Inner.{number-of, Some}
 use Rattle.table.proofs.Enters.{entered-by, entered-nothing, make-else, make-at, make-append}
 use borrow.Author.Needs.{needs}

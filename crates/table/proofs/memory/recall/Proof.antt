@@ -1,6 +1,6 @@
 use lib.ListN.{length}
 use native.Mathlib.Omega.{arith}
-use Rattle.table.proofs.Words.{index-fits, reach-is, place-size, place-fits, recalls-at}
+use Rattle.table.proofs.Words.{index-fits, place-size, place-fits, recalls-at}
 use borrow.Author.Needs.{needs}
 use Rattle.table.proofs.memory.recall.Statement.{statement}
 use Rattle.table.proofs.memory.recall.Tie as tie

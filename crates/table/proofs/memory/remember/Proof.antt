@@ -1,8 +1,8 @@
 use lib.ListN.{length}
 use native.Mathlib.Omega.{arith}
 use mathlib.Core.Path.{refl}
-use Rattle.table.specs.Memory.{nothing, word}
-use Rattle.table.proofs.Words.{index-fits, reach-is, place-size, place-fits, written-at}
+use Rattle.table.specs.Memory.{nothing}
+use Rattle.table.proofs.Words.{index-fits, place-size, place-fits, written-at}
 use borrow.Author.Needs.{needs}
 use Rattle.table.proofs.memory.remember.Statement.{statement}
 use Rattle.table.proofs.memory.remember.Tie as tie

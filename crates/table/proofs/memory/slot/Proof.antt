@@ -1,4 +1,3 @@
-use native.Mathlib.Omega.{arith}
 use Rattle.table.proofs.Words.{slot-least}
 use borrow.Author.Needs.{needs}
 use Rattle.table.proofs.memory.slot.Statement.{statement}

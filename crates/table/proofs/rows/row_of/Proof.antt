@@ -1,6 +1,5 @@
 use native.Mathlib.Omega.{arith}
 use mathlib.Core.Path.{_∙_}
-use Rattle.steps.specs.Table.{slices}
 use Rattle.steps.proofs.Rows.{row-const}
 use Rattle.steps.proofs.Table.{rows-of-number}
 use borrow.Author.Needs.{needs}
