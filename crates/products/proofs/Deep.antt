@@ -110,6 +110,15 @@ module _ (N c : ℕ) (s : Slices) (work : List ℕ) (ft fe gt ge : ℕ) (d : Qua
       le-min (min-le-left (root N R fe) m) (omega (arith, min-le-right (root N R fe) m, min-le-right (root N R ft) (min (root N R gt) (root N R ge)), min-le-left (root N R gt) (root N R ge))) in
       (omega arith, record { live = d .live; left = d .fe-used; right = d .gt-used })
 
+  pub then-asks-second : (t : ℕ) → 4 * depth-then N (rows-of s c) ft fe gt ge + 3 ≡ t → (4 * depth N (rows-of s c) ft ge + 1 < t) × Pair N c s work ft ge
+  then-asks-second t e =
+      let R = rows-of s c in
+      let m = min (root N R ft) (min (root N R gt) (root N R ge)) in
+      let h : min (root N R fe) m ≤ min (root N R ft) (root N R ge) =
+      le-min (omega (arith, min-le-right (root N R fe) m, min-le-left (root N R ft) (min (root N R gt) (root N R ge))))
+      (omega (arith, min-le-right (root N R fe) m, min-le-right (root N R ft) (min (root N R gt) (root N R ge)), min-le-right (root N R gt) (root N R ge))) in
+      (omega arith, record { live = d .live; left = d .ft-used; right = d .ge-used })
+
   pub then-full : {s₁ : Slices} {work₁ : List ℕ} → Kept N (product N fe gt) Full c s s₁ work work₁ → Kept N (then-steps N ft fe gt ge) Full c s s₁ work work₁
   then-full k = kept-full (λ a. rest-steps N a ft gt ge) keeps-rest k
 

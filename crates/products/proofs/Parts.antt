@@ -13,6 +13,7 @@ use Rattle.steps.specs.Steps.{answer, _>>=_, make, product}
 use Rattle.steps.proofs.Rows.{Cut, node}
 use Rattle.steps.proofs.Roots.{cut-absent}
 use Rattle.steps.proofs.Product.{ok-products, then-step-ok, absent-right, absent-left, products-left-0, products-left-1, products-right-0, products-right-1, products-same}
+use Rattle.steps.proofs.Sum.{sums-left-0, sums-right-0}
 use Rattle.steps.proofs.Laws.{product-less, product-more, product-both}
 use Rattle.steps.proofs.Theorems.{Right, right, value-of-product}
 use Rattle.sums.specs.Inner.{Apart, Split, less, more, both}
@@ -34,6 +35,14 @@ module _ (N : ℕ) (R : Rows) (f g : ℕ) where
 
   pub product-same : f ≡ g → product N f g R ≡ answer f R
   product-same e = rw e (products-same N N g R)
+
+-- where the then-part of one operand is 0, the other's is multiplied and nothing is summed
+module _ (N : ℕ) (R : Rows) (ft fe gt ge : ℕ) where
+  pub then-second : gt ≡ 0 → then-steps N ft fe gt ge R ≡ product N ft ge R
+  then-second e = rw e (simp (products-right-0, sums-left-0))
+
+  pub then-first : ft ≡ 0 → then-steps N ft fe gt ge R ≡ product N fe gt R
+  then-first e = rw e (simp (products-left-0, sums-right-0))
 
 pub apart : {f g : ℕ} → Proper f g → Apart f g
 apart a = record { left = a .left-0; right = a .right-0; two = a .two }

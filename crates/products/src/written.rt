@@ -6,6 +6,7 @@ use table::make::make;
 use table::memory::PRODUCT;
 use table::memory::Recalled;
 use table::memory::key;
+use table::memory::place;
 use table::memory::recall;
 use table::memory::remember;
 use table::rows::Node;
@@ -68,13 +69,14 @@ pub fn product(
         return Made::At(f, count);
     }
     let key = key(PRODUCT, f, g);
-    if let Recalled::At(k) = recall(work, vs.len(), key) {
+    let i = place(vs.len(), work.len(), key);
+    if let Recalled::At(k) = recall(work, i, key) {
         return Made::At(k, count);
     }
     let Made::At(k, c) = product_deep(vs, ts, es, work, n, count, f, g) else {
         return Made::Full;
     };
-    remember(work, vs.len(), key, k);
+    remember(work, i, key, k);
     Made::At(k, c)
 }
 
@@ -109,7 +111,7 @@ fn product_deep(
     make(vs, ts, es, work, c2, Node { v, t, e })
 }
 
-// The then-part: else(f)·then(g), then(f)·then(g), then(f)·else(g), and their sums.
+// The then-part: else(f)·then(g), then(f)·then(g), then(f)·else(g), and their sums. Where one then-part is 0, so are two of the products.
 fn then_part(
     vs: &mut [u16],
     ts: &mut [u16],
@@ -126,6 +128,12 @@ fn then_part(
     ensures { λ r. ⌜ Kept n (then-steps n (ft .0) (fe .0) (gt .0) (ge .0)) r count (slices (now (vs .entry)) (now (ts .entry)) (now (es .entry)))
         (slices (now (vs .exit)) (now (ts .exit)) (now (es .exit))) (now (work .entry)) (now (work .exit)) ⌝ }
 {
+    if gt.0 == 0 {
+        return product(vs, ts, es, work, n, count, ft, ge);
+    }
+    if ft.0 == 0 {
+        return product(vs, ts, es, work, n, count, fe, gt);
+    }
     let Made::At(a, c1) = product(vs, ts, es, work, n, count, fe, gt) else {
         return Made::Full;
     };

@@ -5,7 +5,7 @@ use mathlib.Core.Bool.{_&&_, xor}
 use mathlib.Core.List.{List}
 use native.Mathlib.Omega.{arith}
 use native.Mathlib.Nat.{le-min, min-le-left, min-eq-left}
-use lib.ListN.{length}
+use lib.ListN.{length, set}
 use Rattle.steps.specs.Rows.{Row as Triple, row-of, next, row, root, value}
 use Rattle.steps.specs.Steps.{answer, _>>=_, make, sum, product, normal}
 use Rattle.steps.specs.Table.{Slices, rows-of}
@@ -22,8 +22,8 @@ use Rattle.table.specs.declared.make.Made.the-variants.{At as Made-at, Full}
 use Rattle.table.specs.declared.memory.Recalled.{Recalled}
 use Rattle.table.specs.declared.memory.Recalled.the-variants.{At as Recalled-at}
 use Rattle.table.specs.Lent.{room, Numbered}
-use Rattle.table.specs.Index.{index-words, Indexed}
-use Rattle.table.specs.Memory.{reach, steps-of, key-of, Recalls, Written}
+use Rattle.table.specs.Index.{Indexed}
+use Rattle.table.specs.Memory.{steps-of, key-of, Place, Recalls}
 use Rattle.table.specs.Inner.{Entered, Kept}
 use Rattle.table.proofs.Takes.{taken-rows}
 use Rattle.table.proofs.Words.{steps-normal}
@@ -116,16 +116,15 @@ module _ (N c : ℕ) (s : Slices) (work : List ℕ) (p f : ℕ) (d : Reduces N c
         is-normal : (a b : ℕ) → steps-of N 3 a b ≡ normal N a b
         is-normal a b = steps-normal N 3 a b (omega arith) (omega arith)
 
-        pub form-recalled : {r : Recalled} {n : Row} → r ≡ Recalled-at n → Recalls r (index-words (room s) (length work)) (reach (room s) (length work)) work key
-            → normal N p f (rows-of s c) ≡ answer (n .0) (rows-of s c)
-        form-recalled e h = same ∙ steps-recalled N c s work (d .by .live) 3 p g (omega arith) (d .used) (by .system .used) key z (omega arith) (normal N p g) (is-normal p g) e h
+        module _ (i : ℕ) (place : Place (room s) (length work) i) where
+          pub form-recalled : {r : Recalled} {n : Row} → r ≡ Recalled-at n → Recalls r work i key → normal N p f (rows-of s c) ≡ answer (n .0) (rows-of s c)
+          form-recalled e h = same ∙ steps-recalled N c s work (d .by .live) 3 p g (omega arith) (d .used) (by .system .used) key z (omega arith) (normal N p g) (is-normal p g) i place e h
 
-        pub form-remembered : (n : Row) (c′ : ℕ) (s′ : Slices) (work′ : List ℕ) → Kept N (normal N p g) (Made-at n c′) c s s′ work work′
-            → (work″ : List ℕ) → Written (index-words (room s′) (length work′)) (reach (room s′) (length work′)) work′ work″ (key * 65536 + n .0)
-            → Kept N (normal N p f) (Made-at n c′) c s s′ work work″
-        form-remembered n c′ s′ work′ e work″ w =
-            kept-by same (steps-remembered N c s work (d .by .live) 3 p g (omega arith) (d .used) (by .system .used) key z (omega arith) (normal N p g) (is-normal p g) (λ o. by .system .not-0) _
-            (right N c s work p g by (d .used)) n c′ s′ work′ e work″ w)
+          pub form-remembered : (n : Row) (c′ : ℕ) (s′ : Slices) (work′ : List ℕ) → Kept N (normal N p g) (Made-at n c′) c s s′ work work′
+              → (work″ : List ℕ) → set work′ i (key * 65536 + n .0) ≡ work″ → Kept N (normal N p f) (Made-at n c′) c s s′ work work″
+          form-remembered n c′ s′ work′ e work″ w =
+              kept-by same (steps-remembered N c s work (d .by .live) 3 p g (omega arith) (d .used) (by .system .used) key z (omega arith) (normal N p g) (is-normal p g) i place
+              (λ o. by .system .not-0) _ (right N c s work p g by (d .used)) n c′ s′ work′ e work″ w)
 
 -- where the first lead is at p's root or behind it
 module _ (N c : ℕ) (s : Slices) (work : List ℕ) (p f : ℕ) (d : Reduces N c s work p f) (a : Proper N (rows-of s c) p f) where

@@ -9,6 +9,7 @@ use table::make::make;
 use table::memory::NORMAL_FORM;
 use table::memory::Recalled;
 use table::memory::key;
+use table::memory::place;
 use table::memory::recall;
 use table::memory::remember;
 use table::rows::Node;
@@ -65,13 +66,14 @@ fn normal_form(
         return Made::At(p, count);
     }
     let key = key(NORMAL_FORM, p, g);
-    if let Recalled::At(k) = recall(work, vs.len(), key) {
+    let i = place(vs.len(), work.len(), key);
+    if let Recalled::At(k) = recall(work, i, key) {
         return Made::At(k, count);
     }
     let Made::At(k, c) = normal_deep(vs, ts, es, work, n, count, p, g) else {
         return Made::Full;
     };
-    remember(work, vs.len(), key, k);
+    remember(work, i, key, k);
     Made::At(k, c)
 }
 

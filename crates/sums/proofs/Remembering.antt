@@ -4,7 +4,7 @@ use mathlib.Core.Path.{_≡_, _∙_}
 use mathlib.Core.Bool.{xor}
 use mathlib.Core.List.{List}
 use native.Mathlib.Omega.{arith}
-use lib.ListN.{length}
+use lib.ListN.{length, set}
 use Rattle.steps.specs.Rows.{Rows, value}
 use Rattle.steps.specs.Steps.{answer, sum}
 use Rattle.steps.specs.Table.{Slices, rows-of}
@@ -17,8 +17,7 @@ use Rattle.table.specs.declared.make.Made.the-variants.{At}
 use Rattle.table.specs.declared.memory.Recalled.{Recalled}
 use Rattle.table.specs.declared.memory.Recalled.the-variants.{At as Recalled-at}
 use Rattle.table.specs.Lent.{room}
-use Rattle.table.specs.Index.{index-words}
-use Rattle.table.specs.Memory.{reach, key-of, Live, Recalls, Written}
+use Rattle.table.specs.Memory.{key-of, Live, Place, Recalls}
 use Rattle.table.specs.Inner.{Kept}
 use Rattle.table.proofs.Words.{steps-sum}
 use Rattle.sums.specs.Inner.{Pair, SumKey, straight, turned}
@@ -36,36 +35,40 @@ module _ (N : ℕ) (R : Rows) (f g : ℕ) where
   sum-same e = rw e (sums-same N N g R)
 
 -- under the key of f and g, in this order
-module _ (N c : ℕ) (s : Slices) (work : List ℕ) (f g : ℕ) (live : Live N c s work) (uf : f < c + 2) (ug : g < c + 2) (key : ℕ) (z : key-of 1 f g ≡ key) where
+module _ (N c : ℕ) (s : Slices) (work : List ℕ) (f g : ℕ) (live : Live N c s work) (uf : f < c + 2) (ug : g < c + 2) (key : ℕ) (z : key-of 1 f g ≡ key)
+    (i : ℕ) (place : Place (room s) (length work) i) where
   abbrev R : Rows
   R = rows-of s c
 
-  in-order : {r : Recalled} {k : Row} → r ≡ Recalled-at k → Recalls r (index-words (room s) (length work)) (reach (room s) (length work)) work key
-      → sum N f g (rows-of s c) ≡ answer (k .0) (rows-of s c)
-  in-order = steps-recalled N c s work live 1 f g (omega arith) uf ug key z (omega arith) (sum N f g) (steps-sum N f g)
+  in-order : {r : Recalled} {k : Row} → r ≡ Recalled-at k → Recalls r work i key → sum N f g (rows-of s c) ≡ answer (k .0) (rows-of s c)
+  in-order = steps-recalled N c s work live 1 f g (omega arith) uf ug key z (omega arith) (sum N f g) (steps-sum N f g) i place
 
   right : Right N (sum N f g) R 0 (λ a. xor (value a R f) (value a R g))
   right = sum-right N R (live .sound) f g (omega (arith, rows-of-next s c)) (omega (arith, rows-of-next s c)) 0 (omega arith) (omega arith)
 
   kept-in-order : (k : Row) (n : ℕ) (s′ : Slices) (work′ : List ℕ) → Kept N (sum N f g) (At k n) c s s′ work work′
-      → (work″ : List ℕ) → Written (index-words (room s′) (length work′)) (reach (room s′) (length work′)) work′ work″ (key * 65536 + k .0)
-      → Kept N (sum N f g) (At k n) c s s′ work work″
-  kept-in-order = steps-remembered N c s work live 1 f g (omega arith) uf ug key z (omega arith) (sum N f g) (steps-sum N f g) (λ e. absurd (omega arith)) _ right
+      → (work″ : List ℕ) → set work′ i (key * 65536 + k .0) ≡ work″ → Kept N (sum N f g) (At k n) c s s′ work work″
+  kept-in-order = steps-remembered N c s work live 1 f g (omega arith) uf ug key z (omega arith) (sum N f g) (steps-sum N f g) i place (λ e. absurd (omega arith)) _ right
 
 module _ (N c : ℕ) (s : Slices) (work : List ℕ) (f g : ℕ) (d : Pair N c s work f g) where
   pub pair-key : (key : ℕ) → SumKey f g key → key < 65536 * 65536 * 4
   pair-key key (straight z) = key-fits N c s work (d .live) 1 f g (omega arith) (d .left) (d .right) key z
   pair-key key (turned z) = key-fits N c s work (d .live) 1 g f (omega arith) (d .right) (d .left) key z
 
-  pub recalled : {key : ℕ} {r : Recalled} {k : Row} → SumKey f g key → r ≡ Recalled-at k → Recalls r (index-words (room s) (length work)) (reach (room s) (length work)) work key
-      → sum N f g (rows-of s c) ≡ answer (k .0) (rows-of s c)
-  recalled {key} (straight z) e h = in-order N c s work f g (d .live) (d .left) (d .right) key z e h
-  recalled {key} (turned z) e h = sums-comm N (suc N) f g (rows-of s c) ∙ in-order N c s work g f (d .live) (d .right) (d .left) key z e h
+  module _ (key : ℕ) (q : SumKey f g key) (i : ℕ) (place : Place (room s) (length work) i) where
+    pub recalled : {r : Recalled} {k : Row} → r ≡ Recalled-at k → Recalls r work i key → sum N f g (rows-of s c) ≡ answer (k .0) (rows-of s c)
+    recalled {k = k} e h = go q
+      where
+        go : SumKey f g key → sum N f g (rows-of s c) ≡ answer (k .0) (rows-of s c)
+        go (straight z) = in-order N c s work f g (d .live) (d .left) (d .right) key z i place e h
+        go (turned z) = sums-comm N (suc N) f g (rows-of s c) ∙ in-order N c s work g f (d .live) (d .right) (d .left) key z i place e h
 
-  module _ (k : Row) (n : ℕ) (s′ : Slices) (work′ : List ℕ) (e : Kept N (sum N f g) (At k n) c s s′ work work′) where
-    pub kept-remembered : (key : ℕ) (work″ : List ℕ) → SumKey f g key → Written (index-words (room s′) (length work′)) (reach (room s′) (length work′)) work′ work″ (key * 65536 + k .0)
-        → Kept N (sum N f g) (At k n) c s s′ work work″
-    kept-remembered key work″ (straight z) w = kept-in-order N c s work f g (d .live) (d .left) (d .right) key z k n s′ work′ e work″ w
-    kept-remembered key work″ (turned z) w =
-        kept-by (sums-comm N (suc N) f g (rows-of s c))
-        (kept-in-order N c s work g f (d .live) (d .right) (d .left) key z k n s′ work′ (kept-by (sums-comm N (suc N) g f (rows-of s c)) e) work″ w)
+    pub kept-remembered : (k : Row) (n : ℕ) (s′ : Slices) (work′ : List ℕ) → Kept N (sum N f g) (At k n) c s s′ work work′
+        → (work″ : List ℕ) → set work′ i (key * 65536 + k .0) ≡ work″ → Kept N (sum N f g) (At k n) c s s′ work work″
+    kept-remembered k n s′ work′ e work″ w = go q
+      where
+        go : SumKey f g key → Kept N (sum N f g) (At k n) c s s′ work work″
+        go (straight z) = kept-in-order N c s work f g (d .live) (d .left) (d .right) key z i place k n s′ work′ e work″ w
+        go (turned z) =
+            kept-by (sums-comm N (suc N) f g (rows-of s c))
+            (kept-in-order N c s work g f (d .live) (d .right) (d .left) key z i place k n s′ work′ (kept-by (sums-comm N (suc N) g f (rows-of s c)) e) work″ w)

@@ -6,6 +6,7 @@ use table::make::make;
 use table::memory::Recalled;
 use table::memory::SUM;
 use table::memory::key;
+use table::memory::place;
 use table::memory::recall;
 use table::memory::remember;
 use table::rows::Node;
@@ -49,13 +50,14 @@ pub fn sum(
         return Made::At(Row(0), count);
     }
     let key = sum_key(f, g);
-    if let Recalled::At(k) = recall(work, vs.len(), key) {
+    let i = place(vs.len(), work.len(), key);
+    if let Recalled::At(k) = recall(work, i, key) {
         return Made::At(k, count);
     }
     let Made::At(k, c) = sum_deep(vs, ts, es, work, n, count, f, g) else {
         return Made::Full;
     };
-    remember(work, vs.len(), key, k);
+    remember(work, i, key, k);
     Made::At(k, c)
 }
 

@@ -1,15 +1,15 @@
 -- Remembered results: what stands in the words behind the index.
-use Prim.Native.Nat.{ℕ, _+_, _*_, _-_, _/_, _%_, _<_, _≤_}
+use Prim.Native.Nat.{ℕ, zero, suc, _+_, _*_, _-_, _/_, _%_, _<_, _≤_}
 use mathlib.Core.Path.{_≡_, refl, sym, ap, _∙_}
 use mathlib.Core.Bool.{Bool, true, false}
-use mathlib.Core.List.{List}
+use mathlib.Core.List.{List, [], _∷_}
 use native.Mathlib.Omega.{arith}
 use native.Mathlib.Nat.{mod-lt}
 use native.Mathlib.Decide.{ℕ-discrete}
 use lib.Dec.{eqb, ltb, leb}
 use lib.ListN.{length, getD, set, length-set}
 use lib.Seq.{getD-set-same, getD-set-other, drop-set-lt}
-use borrow.Author.Tests.{ne-eqb, eqb-true, eqb-false, ltb-false}
+use borrow.Author.Tests.{ne-eqb, eqb-true, eqb-false, ltb-true, ltb-false}
 use Rattle.steps.specs.Rows.{Rows}
 use Rattle.steps.specs.Sound.{Sound}
 use Rattle.steps.specs.Steps.{Steps, answer, sum, product, normal}
@@ -21,7 +21,7 @@ use Rattle.table.specs.declared.Row.{Row}
 use Rattle.table.specs.declared.make.Made.the-variants.{At}
 use Rattle.table.specs.Lent.{room}
 use Rattle.table.specs.Index.{index-size, index-words, Front}
-use Rattle.table.specs.Memory.{memory-size, Size, large, middle, least, reach, steps-of, key-of, Remembered, Words, Live, Stands, Written, nothing, word, Behind}
+use Rattle.table.specs.Memory.{memory-size, Size, large, middle, least, reach, steps-of, key-of, Remembered, Words, Live, Place, Stands, Behind}
 use Rattle.table.specs.Inner.{Entered}
 use Rattle.table.proofs.Buckets.{index-room}
 use Rattle.table.proofs.Links.{pack-low, behind-word, chains-same}
@@ -84,6 +84,12 @@ module _ (R L h m : ℕ) (eh : index-words R L ≡ h) (em : memory-size R (L - h
   pub place-fits : h + m ≤ L
   place-fits = omega (arith, memory-fits sized-here, rw eh at (index-fits R L))
 
+  pub place-at : (i : ℕ) → i < m → Place R L (h + i)
+  place-at i l = record { inside = λ b. (omega (arith, eh), omega (arith, reach-is)) }
+
+pub place-nowhere : (R L : ℕ) → Place R L L
+place-nowhere R L = record { inside = λ b. absurd (omega arith) }
+
 -- the operations
 module _ (N : ℕ) where
   pub steps-sum : (f g : ℕ) → steps-of N 1 f g ≡ sum N f g
@@ -118,6 +124,12 @@ module _ (N : ℕ) where
           let q = eqb-false op 2 y in
           again (normal N f g) (steps-normal op f g p q) (normal-right N R s f g (d .left) (d .right) 0 (omega arith) (omega arith) (d .system (omega arith)))
 
+-- a write behind the slice writes nothing
+pub set-nowhere : (xs : List ℕ) (i w : ℕ) → length xs ≤ i → set xs i w ≡ xs
+set-nowhere [] i w h = refl
+set-nowhere (x ∷ xs) zero w h = absurd (omega arith)
+set-nowhere (x ∷ xs) (suc i) w h = ap (λ (r : List ℕ). x ∷ r) (set-nowhere xs i w (omega arith))
+
 -- a key says what it is of
 any-key : (o f g o′ f′ g′ r : ℕ) → f < 65536 → g < 65536 → f′ < 65536 → g′ < 65536 → r < 65536 → (key-of o f g * 65536 + r) / 65536 ≡ key-of o′ f′ g′ → (o ≡ o′) × (f ≡ f′) × (g ≡ g′)
 any-key o f g o′ f′ g′ r a b c d e q = (omega arith, omega arith, omega arith)
@@ -135,10 +147,11 @@ module _ (N c : ℕ) (s : Slices) (work : List ℕ) (d : Live N c s work) where
   live-small k h = omega (arith, d .indexed .lent .used, d .indexed .lent .small)
 
   -- what the memory has of a key is its result
-  pub live-recalls : (op f g k : ℕ) → 0 < op → op < 4 → f < c + 2 → g < c + 2 → Stands (index-words (room s) (length work)) (reach (room s) (length work)) work (key-of op f g) k
+  pub live-recalls : (op f g k i : ℕ) → 0 < op → op < 4 → f < c + 2 → g < c + 2 → Place (room s) (length work) i → Stands work i (key-of op f g) k
       → steps-of N op f g (rows-of s c) ≡ answer k (rows-of s c)
-  live-recalls op f g k o o′ uf ug w =
-      d .words .each (w .at) op f g (w .after) (w .before) o o′ (live-small f uf) (live-small g ug) (w .has-key) .is ∙ ap (λ (n : ℕ). answer n R) (w .has-result)
+  live-recalls op f g k i o o′ uf ug p w =
+      let b = p .inside (w .there) in
+      d .words .each i op f g (b .0) (b .1) o o′ (live-small f uf) (live-small g ug) (w .has-key) .is ∙ ap (λ (n : ℕ). answer n R) (w .has-result)
 
   -- and a result that was written is remembered
   module _ (op f g k : ℕ) (uf : f < c + 2) (ug : g < c + 2) (uk : k < 65536) (r : Remembered N (rows-of s c) op f g k) where
@@ -177,14 +190,20 @@ module _ (N c : ℕ) (s : Slices) (work : List ℕ) (d : Live N c s work) where
           words = rw e (words-set at h b);
         }
 
-    pub live-written : (work′ : List ℕ) → Written (index-words (room s) (length work)) (reach (room s) (length work)) work work′ (key-of op f g * 65536 + k) → Live N c s work′
-    live-written work′ (nothing e) = rw e d
-    live-written work′ (word at h b e) = rw e (live-set at h b)
+    pub live-written : (at : ℕ) → Place (room s) (length work) at → Live N c s (set work at (key-of op f g * 65536 + k))
+    live-written at p = go (ltb at (length work)) refl
+      where
+        go : (t : Bool) → ltb at (length work) ≡ t → Live N c s (set work at (key-of op f g * 65536 + k))
+        go true e = let b = p .inside (ltb-true at (length work) e) in live-set at (b .0) (b .1)
+        go false e = rw (set-nowhere work at (key-of op f g * 65536 + k) (ltb-false at (length work) e)) d
 
 -- nothing behind the memory changes by a write
-pub behind-written : (R : ℕ) (work work′ : List ℕ) (w : ℕ) → Written (index-words R (length work)) (reach R (length work)) work work′ w → Behind R work work′
-behind-written R work work′ w (nothing e) = rw e (record { same-length = refl; rest = refl })
-behind-written R work work′ w (word at h b e) = rw e (record { same-length = length-set work at w; rest = drop-set-lt (reach R (length work)) work at w b })
+pub behind-written : (R : ℕ) (work : List ℕ) (at w : ℕ) → Place R (length work) at → Behind R work (set work at w)
+behind-written R work at w p = go (ltb at (length work)) refl
+  where
+    go : (t : Bool) → ltb at (length work) ≡ t → Behind R work (set work at w)
+    go true e = record { same-length = length-set work at w; rest = drop-set-lt (reach R (length work)) work at w (p .inside (ltb-true at (length work) e) .1) }
+    go false e = rw (set-nowhere work at w (ltb-false at (length work) e)) (record { same-length = refl; rest = refl })
 
 pub behind-front : {R : ℕ} {work work′ : List ℕ} → Front R work work′ → Behind R work work′
 behind-front {R} {work} {work′} f = record {
@@ -216,10 +235,3 @@ pub slot-least : (m x : ℕ) → (m ≡ 16384 → ⊥) → (m ≡ 2048 → ⊥) 
 slot-least m x h g large = absurd (h refl)
 slot-least m x h g middle = absurd (g refl)
 slot-least m x h g least = mod-lt x (omega arith)
-
-module _ (R L h m : ℕ) (eh : index-words R L ≡ h) (em : memory-size R (L - h) ≡ m) (i : ℕ) (l : i < m) where
-  pub recalls-at : (work : List ℕ) (key : ℕ) → getD work (h + i) 0 / 65536 ≡ key → Stands (index-words R L) (reach R L) work key (getD work (h + i) 0 % 65536)
-  recalls-at work key e = record { at = h + i; after = omega (arith, eh); before = omega (arith, reach-is R L h m eh em); has-key = e; has-result = refl }
-
-  pub written-at : (work : List ℕ) (w : ℕ) → Written (index-words R L) (reach R L) work (set work (h + i) w) w
-  written-at work w = word (h + i) (omega (arith, eh)) (omega (arith, reach-is R L h m eh em)) refl

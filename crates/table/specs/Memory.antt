@@ -4,7 +4,7 @@ use Prim.Native.Nat.{ℕ, _+_, _*_, _-_, _/_, _%_, _<_, _≤_}
 use mathlib.Core.Path.{_≡_}
 use mathlib.Core.Bool.{cond}
 use mathlib.Core.List.{List}
-use lib.ListN.{length, getD, set, drop}
+use lib.ListN.{length, getD, drop}
 use lib.Dec.{eqb, leb, ltb}
 use Rattle.steps.specs.Rows.{Rows, next}
 use Rattle.steps.specs.Steps.{Steps, answer, sum, product, normal}
@@ -60,22 +60,19 @@ pub record Live (N c : ℕ) (s : Slices) (work : List ℕ) : Type 0 where
   pub indexed : Indexed c s work
   pub words : Words N (index-words (room s) (length work)) (reach (room s) (length work)) (rows-of s c) work
 
--- a word with the key stands in the memory, and has the result k
-pub record Stands (from to : ℕ) (work : List ℕ) (key k : ℕ) : Type 0 where
-  pub at : ℕ
-  pub after : from ≤ at
-  pub before : at < to
-  pub has-key : getD work at 0 / 65536 ≡ key
-  pub has-result : getD work at 0 % 65536 ≡ k
+-- i is a word of the memory of a table of R rows, or none of the L words at all: nothing is remembered there
+pub record Place (R L i : ℕ) : Type 0 where
+  pub inside : i < L → (index-words R L ≤ i) × (i < reach R L)
 
-abbrev pub Recalls : Recalled → ℕ → ℕ → List ℕ → ℕ → Type 0
-Recalls (At k) from to work key = Stands from to work key (k .0)
-Recalls Nothing from to work key = Unit {0}
+-- the word i has the key, and the result k
+pub record Stands (work : List ℕ) (i key k : ℕ) : Type 0 where
+  pub there : i < length work
+  pub has-key : getD work i 0 / 65536 ≡ key
+  pub has-result : getD work i 0 % 65536 ≡ k
 
--- one word of the memory was written, or none where there is no memory
-pub data Written (from to : ℕ) (work work′ : List ℕ) (w : ℕ) : Type 0 where
-  nothing : work′ ≡ work → Written from to work work′ w
-  word : (at : ℕ) → from ≤ at → at < to → work′ ≡ set work at w → Written from to work work′ w
+abbrev pub Recalls : Recalled → List ℕ → ℕ → ℕ → Type 0
+Recalls (At k) work i key = Stands work i key (k .0)
+Recalls Nothing work i key = Unit {0}
 
 -- nothing but the index and the memory has changed, in a table of R rows
 pub record Behind (R : ℕ) (work work′ : List ℕ) : Type 0 where

@@ -3,9 +3,8 @@ use crate::Row;
 use crate::index::index_words;
 ghost use mathlib.Core.Path.{_≡_};
 ghost use Prim.Native.Nat.{_+_, _*_, _-_, _<_};
-ghost use lib.ListN.{length};
-ghost use Rattle.table.specs.Index.{index-words};
-ghost use Rattle.table.specs.Memory.{memory-size, reach, key-of, Size, Recalls, Written};
+ghost use lib.ListN.{set};
+ghost use Rattle.table.specs.Memory.{memory-size, reach, key-of, Size, Place, Recalls};
 
 // The operations whose results are remembered.
 pub const SUM: u64 = 1;
@@ -64,16 +63,25 @@ fn slot(m: usize, key: u64) -> usize
     (hash % 128) as usize
 }
 
-// The result that a table of so many rows has under the key.
-pub fn recall(work: &[u64], rows: usize, key: u64) -> Recalled
-    ensures { λ r. ⌜ Recalls r (index-words rows (length (now (work .entry)))) (reach rows (length (now (work .entry)))) (now (work .entry)) key ⌝ }
+// The word that remembers what stands under the key, for a table of so many rows and a working slice of len words; where nothing is remembered, none of them.
+pub fn place(rows: usize, len: usize, key: u64) -> usize
+    ensures { λ i. ⌜ Place rows len i ⌝ }
 {
-    let h = index_words(rows, work.len());
-    let m = memory_size(rows, work.len() - h);
+    let h = index_words(rows, len);
+    let m = memory_size(rows, len - h);
     if m == 0 {
+        return len;
+    }
+    h + slot(m, key)
+}
+
+// The result that the word i has under the key.
+pub fn recall(work: &[u64], i: usize, key: u64) -> Recalled
+    ensures { λ r. ⌜ Recalls r (now (work .entry)) i key ⌝ }
+{
+    if work.len() <= i {
         return Recalled::Nothing;
     }
-    let i = h + slot(m, key);
     let w = work[i];
     if w / 65536 == key {
         return Recalled::At(Row((w % 65536) as u16));
@@ -81,18 +89,14 @@ pub fn recall(work: &[u64], rows: usize, key: u64) -> Recalled
     Recalled::Nothing
 }
 
-// Remembers the result k under the key.
-pub fn remember(work: &mut [u64], rows: usize, key: u64, k: Row)
+// Remembers the result k under the key in the word i.
+pub fn remember(work: &mut [u64], i: usize, key: u64, k: Row)
     requires { ⌜ key < 65536 * 65536 * 4 ⌝ }
-    ensures { λ _. ⌜ Written (index-words rows (length (now (work .entry)))) (reach rows (length (now (work .entry)))) (now (work .entry))
-        (now (work .exit)) (key * 65536 + k .0) ⌝ }
+    ensures { λ _. ⌜ set (now (work .entry)) i (key * 65536 + k .0) ≡ now (work .exit) ⌝ }
 {
-    let h = index_words(rows, work.len());
-    let m = memory_size(rows, work.len() - h);
-    if m == 0 {
+    if work.len() <= i {
         return;
     }
-    let i = h + slot(m, key);
     work[i] = key * 65536 + k.0 as u64;
 }
 

@@ -18,6 +18,7 @@ use Rattle.sums.proofs.written.+sum+sum_deep.Lts-sum_deep as sum-deep-l
 use Rattle.sums.proofs.parts.split.Reads as split-reads
 use Rattle.sums.proofs.written.sum_key.Reads as sum-key-reads
 use Rattle.table.proofs.make.make.Reads as make-reads
+use Rattle.table.proofs.memory.place.Reads as place-reads
 use Rattle.table.proofs.memory.recall.Reads as recall-reads
 use Rattle.table.proofs.memory.remember.Reads as remember-reads
 use Rattle.sums.proofs.written.+sum+sum_deep.{statement}
@@ -43,22 +44,25 @@ sum-deep-below t =
     and 4 sum-deep-kinds.ps (falls 4 sum-deep-kinds.ps _<_ μ-sum-deep t) sum-deep.Pre
 
 abbrev sum-calls : ℕ → sum-lts.Claims
-sum-calls t = (sum-key-reads.Asked, sum-key-reads.Learnt, recall-reads.Asked, recall-reads.Learnt, sum-deep-below t, sum-deep.Post, remember-reads.Asked, remember-reads.Learnt)
+sum-calls t = (sum-key-reads.Asked, sum-key-reads.Learnt, place-reads.Asked, place-reads.Learnt, recall-reads.Asked, recall-reads.Learnt, sum-deep-below t, sum-deep.Post, remember-reads.Asked, remember-reads.Learnt)
 
 abbrev sum-deep-calls : ℕ → sum-deep-lts.Claims
 sum-deep-calls t = (split-reads.Asked, split-reads.Learnt, sum-below t, sum.Post, make-reads.Asked, make-reads.Learnt)
 
 sum-returns : (t : ℕ) → sum-lts.Need-returns (sum-calls t) (sum-at t) sum.Post
-sum-returns t c = let c6 = c .before .before .before .before .before .before in kept-nothing (c6 .pre .1 .live) (sum-left _ _ _ _ (c .if1 .taken))
+sum-returns t c = let c6 = c .before .before .before .before .before .before in kept-nothing ((c6 .pre .1) .live) (sum-left _ _ _ _ ((c .if1 .taken)))
 
 sum-returns-2 : (t : ℕ) → sum-lts.Need-returns-2 (sum-calls t) (sum-at t) sum.Post
-sum-returns-2 t c = let c8 = c .before .before .before .before .before .before .before .before in kept-nothing (c8 .pre .1 .live) (sum-right-0 _ _ _ _ (c .if2 .taken))
+sum-returns-2 t c = let c8 = c .before .before .before .before .before .before .before .before in kept-nothing ((c8 .pre .1) .live) (sum-right-0 _ _ _ _ ((c .if2 .taken)))
 
 sum-returns-3 : (t : ℕ) → sum-lts.Need-returns-3 (sum-calls t) (sum-at t) sum.Post
-sum-returns-3 t c = let c11 = c .before .before .before .before .before .before .before .before .before .before .before in kept-nothing (c11 .pre .1 .live) (sum-same _ _ _ _ (c .if3 .taken))
+sum-returns-3 t c = let c11 = c .before .before .before .before .before .before .before .before .before .before .before in kept-nothing ((c11 .pre .1) .live) (sum-same _ _ _ _ ((c .if3 .taken)))
 
 sum-sum-key-requires : (t : ℕ) → sum-lts.Need-sum-key-requires (sum-calls t) (sum-at t) sum.Post
 sum-sum-key-requires t c κs = search needs
+
+sum-place-requires : (t : ℕ) → sum-lts.Need-place-requires (sum-calls t) (sum-at t) sum.Post
+sum-place-requires t c κs = search needs
 
 sum-recall-requires : (t : ℕ) → sum-lts.Need-recall-requires (sum-calls t) (sum-at t) sum.Post
 sum-recall-requires t c κs = search needs
@@ -70,13 +74,13 @@ sum-same-length : (t : ℕ) → sum-lts.Need-same-length (sum-calls t) (sum-at t
 sum-same-length t c = search needs
 
 sum-returns-4 : (t : ℕ) → sum-lts.Need-returns-4 (sum-calls t) (sum-at t) sum.Post
-sum-returns-4 t c = let c3 = c .before .before .before in let c5 = c3 .before .before in let c17 = c5 .before .before .before .before .before .before .before .before .before .before .before .before in kept-nothing (c17 .pre .1 .live) (recalled _ _ _ _ _ _ (c17 .pre .1) (c5 .sum-key .ensures) (c .before .k .given .1) (c3 .recall .ensures))
+sum-returns-4 t c = let c3 = c .before .before .before in let c5 = c3 .before .before in let c6 = c5 .before in let c18 = c6 .before .before .before .before .before .before .before .before .before .before .before .before in kept-nothing ((c18 .pre .1) .live) (recalled _ _ _ _ _ _ ((c18 .pre .1)) _ ((c6 .sum-key .ensures)) _ ((c5 .place .ensures)) ((c .before .k .given) .1) ((c3 .recall .ensures)))
 
 sum-enum-told : (t : ℕ) → sum-lts.Need-enum-told (sum-calls t) (sum-at t) sum.Post
 sum-enum-told t c = search needs
 
 sum-sum-deep-requires : (t : ℕ) → sum-lts.Need-sum-deep-requires (sum-calls t) (sum-at t) sum.Post
-sum-sum-deep-requires t c κs = let c9 = c .before .before .before .before .before .before .before .before .before in let c12 = c9 .before .before .before in let c14 = c12 .before .before in let c20 = c14 .before .before .before .before .before .before in (omega (arith, (c20 .pre .0)), ((c20 .pre .1), record { left = (c14 .if1 .left); right = (c12 .if2 .left); two = (c9 .if3 .left) }))
+sum-sum-deep-requires t c κs = let c10 = c .before .before .before .before .before .before .before .before .before .before in let c13 = c10 .before .before .before in let c15 = c13 .before .before in let c21 = c15 .before .before .before .before .before .before in (omega (arith, ((c21 .pre .0))), (((c21 .pre .1)), record { left = ((c15 .if1 .left)); right = ((c13 .if2 .left)); two = ((c10 .if3 .left)) }))
 
 sum-enum-known-k-2 : (t : ℕ) → sum-lts.Need-enum-known-k-2 (sum-calls t) (sum-at t) sum.Post
 sum-enum-known-k-2 t c = search needs
@@ -85,37 +89,37 @@ sum-enum-told-2 : (t : ℕ) → sum-lts.Need-enum-told-2 (sum-calls t) (sum-at t
 sum-enum-told-2 t c = search needs
 
 sum-same-length-2 : (t : ℕ) → sum-lts.Need-same-length-2 (sum-calls t) (sum-at t) sum.Post
-sum-same-length-2 t c = let c10 = c .before .before .before .before .before .before .before .before .before .before in (c10 .sum-deep .ensures .taken .vars)
+sum-same-length-2 t c = let c10 = c .before .before .before .before .before .before .before .before .before .before in ((c10 .sum-deep .ensures) .taken .vars)
 
 sum-same-length-3 : (t : ℕ) → sum-lts.Need-same-length-3 (sum-calls t) (sum-at t) sum.Post
-sum-same-length-3 t c = let c10 = c .before .before .before .before .before .before .before .before .before .before in (c10 .sum-deep .ensures .taken .thens)
+sum-same-length-3 t c = let c10 = c .before .before .before .before .before .before .before .before .before .before in ((c10 .sum-deep .ensures) .taken .thens)
 
 sum-same-length-4 : (t : ℕ) → sum-lts.Need-same-length-4 (sum-calls t) (sum-at t) sum.Post
-sum-same-length-4 t c = let c10 = c .before .before .before .before .before .before .before .before .before .before in (c10 .sum-deep .ensures .taken .elses)
+sum-same-length-4 t c = let c10 = c .before .before .before .before .before .before .before .before .before .before in ((c10 .sum-deep .ensures) .taken .elses)
 
 sum-same-length-5 : (t : ℕ) → sum-lts.Need-same-length-5 (sum-calls t) (sum-at t) sum.Post
-sum-same-length-5 t c = let c10 = c .before .before .before .before .before .before .before .before .before .before in (c10 .sum-deep .ensures .behind .same-length)
+sum-same-length-5 t c = let c10 = c .before .before .before .before .before .before .before .before .before .before in ((c10 .sum-deep .ensures) .behind .same-length)
 
 sum-returns-5 : (t : ℕ) → sum-lts.Need-returns-5 (sum-calls t) (sum-at t) sum.Post
-sum-returns-5 t c = let c10 = c .before .before .before .before .before .before .before .before .before .before in kept-is (c .enum-told2 .given .1) (c10 .sum-deep .ensures)
+sum-returns-5 t c = let c10 = c .before .before .before .before .before .before .before .before .before .before in kept-is ((c .enum-told2 .given) .1) ((c10 .sum-deep .ensures))
 
 sum-remember-requires : (t : ℕ) → sum-lts.Need-remember-requires (sum-calls t) (sum-at t) sum.Post
-sum-remember-requires t c κs = let c21 = c .before .before .before .before .before .before .before .before .before .before .before .before .before .before .before .before .before .before .before .before .before in let c33 = c21 .before .before .before .before .before .before .before .before .before .before .before .before in pair-key _ _ _ _ _ _ (c33 .pre .1) _ (c21 .sum-key .ensures)
+sum-remember-requires t c κs = let c22 = c .before .before .before .before .before .before .before .before .before .before .before .before .before .before .before .before .before .before .before .before .before .before in let c34 = c22 .before .before .before .before .before .before .before .before .before .before .before .before in pair-key _ _ _ _ _ _ ((c34 .pre .1)) _ ((c22 .sum-key .ensures))
 
 sum-same-length-6 : (t : ℕ) → sum-lts.Need-same-length-6 (sum-calls t) (sum-at t) sum.Post
-sum-same-length-6 t c = let c15 = c .before .before .before .before .before .before .before .before .before .before .before .before .before .before .before in (c15 .sum-deep .ensures .taken .vars)
+sum-same-length-6 t c = let c15 = c .before .before .before .before .before .before .before .before .before .before .before .before .before .before .before in ((c15 .sum-deep .ensures) .taken .vars)
 
 sum-same-length-7 : (t : ℕ) → sum-lts.Need-same-length-7 (sum-calls t) (sum-at t) sum.Post
-sum-same-length-7 t c = let c15 = c .before .before .before .before .before .before .before .before .before .before .before .before .before .before .before in (c15 .sum-deep .ensures .taken .thens)
+sum-same-length-7 t c = let c15 = c .before .before .before .before .before .before .before .before .before .before .before .before .before .before .before in ((c15 .sum-deep .ensures) .taken .thens)
 
 sum-same-length-8 : (t : ℕ) → sum-lts.Need-same-length-8 (sum-calls t) (sum-at t) sum.Post
-sum-same-length-8 t c = let c15 = c .before .before .before .before .before .before .before .before .before .before .before .before .before .before .before in (c15 .sum-deep .ensures .taken .elses)
+sum-same-length-8 t c = let c15 = c .before .before .before .before .before .before .before .before .before .before .before .before .before .before .before in ((c15 .sum-deep .ensures) .taken .elses)
 
 sum-same-length-9 : (t : ℕ) → sum-lts.Need-same-length-9 (sum-calls t) (sum-at t) sum.Post
-sum-same-length-9 t c = let c15 = c .before .before .before .before .before .before .before .before .before .before .before .before .before .before .before in (c .before .before .remember .kept .0) ∙ (c15 .sum-deep .ensures .behind .same-length)
+sum-same-length-9 t c = let c15 = c .before .before .before .before .before .before .before .before .before .before .before .before .before .before .before in ((c .before .before .remember .kept .0)) ∙ ((c15 .sum-deep .ensures) .behind .same-length)
 
 sum-returns-6 : (t : ℕ) → sum-lts.Need-returns-6 (sum-calls t) (sum-at t) sum.Post
-sum-returns-6 t c = let c5 = c .before .before .before .before .before in let c15 = c5 .before .before .before .before .before .before .before .before .before .before in let c24 = c15 .before .before .before .before .before .before .before .before .before in let c36 = c24 .before .before .before .before .before .before .before .before .before .before .before .before in kept-remembered _ _ _ _ _ _ (c36 .pre .1) _ _ _ _ (kept-is (c5 .k2 .given .1) (c15 .sum-deep .ensures)) _ _ (c24 .sum-key .ensures) (c .before .before .remember .ensures)
+sum-returns-6 t c = let c5 = c .before .before .before .before .before in let c15 = c5 .before .before .before .before .before .before .before .before .before .before in let c24 = c15 .before .before .before .before .before .before .before .before .before in let c25 = c24 .before in let c37 = c25 .before .before .before .before .before .before .before .before .before .before .before .before in kept-remembered _ _ _ _ _ _ ((c37 .pre .1)) _ ((c25 .sum-key .ensures)) _ ((c24 .place .ensures)) _ _ _ _ (kept-is ((c5 .k2 .given) .1) ((c15 .sum-deep .ensures))) _ ((c .before .before .remember .ensures))
 
 sum-deep-split-requires : (t : ℕ) → sum-deep-lts.Need-split-requires (sum-deep-calls t) (sum-deep-at t) sum-deep.Post
 sum-deep-split-requires t c κs = let c7 = c .before .before .before .before .before .before .before in record { lent = (c7 .pre .1 .0 .live .indexed .lent); left = (c7 .pre .1 .0 .left); right = (c7 .pre .1 .0 .right) }
@@ -190,6 +194,8 @@ pub +sum+sum-deep-spec : {M : Type 1} → statement M
 +sum+sum-deep-spec = close μ-sum μ-sum-deep (λ t. sum-lts.spec (
   sum-key-reads.Asked,
   sum-key-reads.Learnt,
+  place-reads.Asked,
+  place-reads.Learnt,
   recall-reads.Asked,
   recall-reads.Learnt,
   sum-deep-below t,
@@ -203,6 +209,7 @@ pub +sum+sum-deep-spec : {M : Type 1} → statement M
     (sum-returns-2 t)
     (sum-returns-3 t)
     (sum-sum-key-requires t)
+    (sum-place-requires t)
     (sum-recall-requires t)
     (sum-enum-known-k t)
     (sum-same-length t)
@@ -255,3 +262,4 @@ pub +sum+sum-deep-spec : {M : Type 1} → statement M
     (sum-deep-same-length-11 t)
     (sum-deep-same-length-12 t)
     (sum-deep-returns-3 t)
+
