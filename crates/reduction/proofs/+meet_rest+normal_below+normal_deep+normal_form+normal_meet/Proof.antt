@@ -26,6 +26,7 @@ use Rattle.leads.proofs.lead_at.Reads as lead-at-reads
 use Rattle.reduction.proofs.join.Reads as join-reads
 use Rattle.table.proofs.make.make.Reads as make-reads
 use Rattle.table.proofs.memory.key.Reads as key-reads
+use Rattle.table.proofs.memory.place.Reads as place-reads
 use Rattle.table.proofs.memory.recall.Reads as recall-reads
 use Rattle.table.proofs.memory.remember.Reads as remember-reads
 use Rattle.table.proofs.rows.row_of.Reads as row-of-reads
@@ -104,7 +105,7 @@ abbrev normal-deep-calls : ℕ → normal-deep-lts.Claims
 normal-deep-calls t = (row-of-reads.Asked, row-of-reads.Learnt, normal-below-below t, normal-below.Post, normal-meet-below t, normal-meet.Post)
 
 abbrev normal-form-calls : ℕ → normal-form-lts.Claims
-normal-form-calls t = (row-of-reads.Asked, row-of-reads.Learnt, lead-at-reads.Asked, lead-at-reads.Learnt, key-reads.Asked, key-reads.Learnt, recall-reads.Asked, recall-reads.Learnt, normal-deep-below t, normal-deep.Post, remember-reads.Asked, remember-reads.Learnt)
+normal-form-calls t = (row-of-reads.Asked, row-of-reads.Learnt, lead-at-reads.Asked, lead-at-reads.Learnt, key-reads.Asked, key-reads.Learnt, place-reads.Asked, place-reads.Learnt, recall-reads.Asked, recall-reads.Learnt, normal-deep-below t, normal-deep.Post, remember-reads.Asked, remember-reads.Learnt)
 
 abbrev normal-meet-calls : ℕ → normal-meet-lts.Claims
 normal-meet-calls t = (normal-form-below t, normal-form.Post, meet-rest-below t, meet-rest.Post)
@@ -286,6 +287,9 @@ normal-form-returns-2 t c = let c8 = c .before .before .before .before .before .
 normal-form-key-requires : (t : ℕ) → normal-form-lts.Need-key-requires (normal-form-calls t) (normal-form-at t) normal-form.Post
 normal-form-key-requires t c κs = search needs
 
+normal-form-place-requires : (t : ℕ) → normal-form-lts.Need-place-requires (normal-form-calls t) (normal-form-at t) normal-form.Post
+normal-form-place-requires t c κs = search needs
+
 normal-form-recall-requires : (t : ℕ) → normal-form-lts.Need-recall-requires (normal-form-calls t) (normal-form-at t) normal-form.Post
 normal-form-recall-requires t c κs = search needs
 
@@ -305,13 +309,13 @@ normal-form-same-length-8 : (t : ℕ) → normal-form-lts.Need-same-length-8 (no
 normal-form-same-length-8 t c = search needs
 
 normal-form-returns-3 : (t : ℕ) → normal-form-lts.Need-returns-3 (normal-form-calls t) (normal-form-at t) normal-form.Post
-normal-form-returns-3 t c = let c3 = c .before .before .before in let c5 = c3 .before .before in let c8 = c5 .before .before .before in let c14 = c8 .before .before .before .before .before .before in let c18 = c14 .before .before .before .before in let c24 = c18 .before .before .before .before .before .before in kept-nothing (c24 .pre .1 .by .live) (form-recalled _ _ _ _ _ _ (c24 .pre .1) (c18 .if1 .left) _ _ _ (c14 .row-of .ensures) _ (c8 .lead-at .ensures) _ (c5 .key .ensures) (c .before .k .given .1) (c3 .recall .ensures))
+normal-form-returns-3 t c = let c3 = c .before .before .before in let c5 = c3 .before .before in let c6 = c5 .before in let c9 = c6 .before .before .before in let c15 = c9 .before .before .before .before .before .before in let c19 = c15 .before .before .before .before in let c25 = c19 .before .before .before .before .before .before in kept-nothing ((c25 .pre .1) .by .live) (form-recalled _ _ _ _ _ _ ((c25 .pre .1)) ((c19 .if1 .left)) _ _ _ ((c15 .row-of .ensures)) _ ((c9 .lead-at .ensures)) _ ((c6 .key .ensures)) _ ((c5 .place .ensures)) ((c .before .k .given) .1) ((c3 .recall .ensures)))
 
 normal-form-enum-told : (t : ℕ) → normal-form-lts.Need-enum-told (normal-form-calls t) (normal-form-at t) normal-form.Post
 normal-form-enum-told t c = search needs
 
 normal-form-normal-deep-requires : (t : ℕ) → normal-form-lts.Need-normal-deep-requires (normal-form-calls t) (normal-form-at t) normal-form.Post
-normal-form-normal-deep-requires t c κs = let c9 = c .before .before .before .before .before .before .before .before .before in let c11 = c9 .before .before in let c17 = c11 .before .before .before .before .before .before in let c21 = c17 .before .before .before .before in let c27 = c21 .before .before .before .before .before .before in form-deep _ _ _ _ _ _ (c27 .pre .1) (c21 .if1 .left) _ _ _ (c17 .row-of .ensures) _ (c11 .lead-at .ensures) (c9 .if2 .left) _ (c27 .pre .0)
+normal-form-normal-deep-requires t c κs = let c10 = c .before .before .before .before .before .before .before .before .before .before in let c12 = c10 .before .before in let c18 = c12 .before .before .before .before .before .before in let c22 = c18 .before .before .before .before in let c28 = c22 .before .before .before .before .before .before in form-deep _ _ _ _ _ _ ((c28 .pre .1)) ((c22 .if1 .left)) _ _ _ ((c18 .row-of .ensures)) _ ((c12 .lead-at .ensures)) ((c10 .if2 .left)) _ ((c28 .pre .0))
 
 normal-form-enum-known-k-2 : (t : ℕ) → normal-form-lts.Need-enum-known-k-2 (normal-form-calls t) (normal-form-at t) normal-form.Post
 normal-form-enum-known-k-2 t c = search needs
@@ -320,37 +324,37 @@ normal-form-enum-told-2 : (t : ℕ) → normal-form-lts.Need-enum-told-2 (normal
 normal-form-enum-told-2 t c = search needs
 
 normal-form-same-length-9 : (t : ℕ) → normal-form-lts.Need-same-length-9 (normal-form-calls t) (normal-form-at t) normal-form.Post
-normal-form-same-length-9 t c = let c10 = c .before .before .before .before .before .before .before .before .before .before in (c10 .normal-deep .ensures .taken .vars)
+normal-form-same-length-9 t c = let c10 = c .before .before .before .before .before .before .before .before .before .before in ((c10 .normal-deep .ensures) .taken .vars)
 
 normal-form-same-length-10 : (t : ℕ) → normal-form-lts.Need-same-length-10 (normal-form-calls t) (normal-form-at t) normal-form.Post
-normal-form-same-length-10 t c = let c10 = c .before .before .before .before .before .before .before .before .before .before in (c10 .normal-deep .ensures .taken .thens)
+normal-form-same-length-10 t c = let c10 = c .before .before .before .before .before .before .before .before .before .before in ((c10 .normal-deep .ensures) .taken .thens)
 
 normal-form-same-length-11 : (t : ℕ) → normal-form-lts.Need-same-length-11 (normal-form-calls t) (normal-form-at t) normal-form.Post
-normal-form-same-length-11 t c = let c10 = c .before .before .before .before .before .before .before .before .before .before in (c10 .normal-deep .ensures .taken .elses)
+normal-form-same-length-11 t c = let c10 = c .before .before .before .before .before .before .before .before .before .before in ((c10 .normal-deep .ensures) .taken .elses)
 
 normal-form-same-length-12 : (t : ℕ) → normal-form-lts.Need-same-length-12 (normal-form-calls t) (normal-form-at t) normal-form.Post
-normal-form-same-length-12 t c = let c10 = c .before .before .before .before .before .before .before .before .before .before in (c10 .normal-deep .ensures .behind .same-length)
+normal-form-same-length-12 t c = let c10 = c .before .before .before .before .before .before .before .before .before .before in ((c10 .normal-deep .ensures) .behind .same-length)
 
 normal-form-returns-4 : (t : ℕ) → normal-form-lts.Need-returns-4 (normal-form-calls t) (normal-form-at t) normal-form.Post
-normal-form-returns-4 t c = let c10 = c .before .before .before .before .before .before .before .before .before .before in let c22 = c10 .before .before .before .before .before .before .before .before .before .before .before .before in let c28 = c22 .before .before .before .before .before .before in let c32 = c28 .before .before .before .before in let c38 = c32 .before .before .before .before .before .before in form-full _ _ _ _ _ _ (c38 .pre .1) (c32 .if1 .left) _ _ _ (c28 .row-of .ensures) _ (c22 .lead-at .ensures) (kept-is (c .enum-told2 .given .1) (c10 .normal-deep .ensures))
+normal-form-returns-4 t c = let c10 = c .before .before .before .before .before .before .before .before .before .before in let c23 = c10 .before .before .before .before .before .before .before .before .before .before .before .before .before in let c29 = c23 .before .before .before .before .before .before in let c33 = c29 .before .before .before .before in let c39 = c33 .before .before .before .before .before .before in form-full _ _ _ _ _ _ ((c39 .pre .1)) ((c33 .if1 .left)) _ _ _ ((c29 .row-of .ensures)) _ ((c23 .lead-at .ensures)) (kept-is ((c .enum-told2 .given) .1) ((c10 .normal-deep .ensures)))
 
 normal-form-remember-requires : (t : ℕ) → normal-form-lts.Need-remember-requires (normal-form-calls t) (normal-form-at t) normal-form.Post
-normal-form-remember-requires t c κs = let c21 = c .before .before .before .before .before .before .before .before .before .before .before .before .before .before .before .before .before .before .before .before .before in let c24 = c21 .before .before .before in let c30 = c24 .before .before .before .before .before .before in let c34 = c30 .before .before .before .before in let c40 = c34 .before .before .before .before .before .before in form-key _ _ _ _ _ _ (c40 .pre .1) (c34 .if1 .left) _ _ _ (c30 .row-of .ensures) _ (c24 .lead-at .ensures) _ (c21 .key .ensures)
+normal-form-remember-requires t c κs = let c22 = c .before .before .before .before .before .before .before .before .before .before .before .before .before .before .before .before .before .before .before .before .before .before in let c25 = c22 .before .before .before in let c31 = c25 .before .before .before .before .before .before in let c35 = c31 .before .before .before .before in let c41 = c35 .before .before .before .before .before .before in form-key _ _ _ _ _ _ ((c41 .pre .1)) ((c35 .if1 .left)) _ _ _ ((c31 .row-of .ensures)) _ ((c25 .lead-at .ensures)) _ ((c22 .key .ensures))
 
 normal-form-same-length-13 : (t : ℕ) → normal-form-lts.Need-same-length-13 (normal-form-calls t) (normal-form-at t) normal-form.Post
-normal-form-same-length-13 t c = let c15 = c .before .before .before .before .before .before .before .before .before .before .before .before .before .before .before in (c15 .normal-deep .ensures .taken .vars)
+normal-form-same-length-13 t c = let c15 = c .before .before .before .before .before .before .before .before .before .before .before .before .before .before .before in ((c15 .normal-deep .ensures) .taken .vars)
 
 normal-form-same-length-14 : (t : ℕ) → normal-form-lts.Need-same-length-14 (normal-form-calls t) (normal-form-at t) normal-form.Post
-normal-form-same-length-14 t c = let c15 = c .before .before .before .before .before .before .before .before .before .before .before .before .before .before .before in (c15 .normal-deep .ensures .taken .thens)
+normal-form-same-length-14 t c = let c15 = c .before .before .before .before .before .before .before .before .before .before .before .before .before .before .before in ((c15 .normal-deep .ensures) .taken .thens)
 
 normal-form-same-length-15 : (t : ℕ) → normal-form-lts.Need-same-length-15 (normal-form-calls t) (normal-form-at t) normal-form.Post
-normal-form-same-length-15 t c = let c15 = c .before .before .before .before .before .before .before .before .before .before .before .before .before .before .before in (c15 .normal-deep .ensures .taken .elses)
+normal-form-same-length-15 t c = let c15 = c .before .before .before .before .before .before .before .before .before .before .before .before .before .before .before in ((c15 .normal-deep .ensures) .taken .elses)
 
 normal-form-same-length-16 : (t : ℕ) → normal-form-lts.Need-same-length-16 (normal-form-calls t) (normal-form-at t) normal-form.Post
 normal-form-same-length-16 t c = search needs
 
 normal-form-returns-5 : (t : ℕ) → normal-form-lts.Need-returns-5 (normal-form-calls t) (normal-form-at t) normal-form.Post
-normal-form-returns-5 t c = let c5 = c .before .before .before .before .before in let c15 = c5 .before .before .before .before .before .before .before .before .before .before in let c24 = c15 .before .before .before .before .before .before .before .before .before in let c27 = c24 .before .before .before in let c33 = c27 .before .before .before .before .before .before in let c37 = c33 .before .before .before .before in let c43 = c37 .before .before .before .before .before .before in form-remembered _ _ _ _ _ _ (c43 .pre .1) (c37 .if1 .left) _ _ _ (c33 .row-of .ensures) _ (c27 .lead-at .ensures) _ (c24 .key .ensures) _ _ _ _ (kept-is (c5 .k2 .given .1) (c15 .normal-deep .ensures)) _ (c .before .before .remember .ensures)
+normal-form-returns-5 t c = let c5 = c .before .before .before .before .before in let c15 = c5 .before .before .before .before .before .before .before .before .before .before in let c24 = c15 .before .before .before .before .before .before .before .before .before in let c25 = c24 .before in let c28 = c25 .before .before .before in let c34 = c28 .before .before .before .before .before .before in let c38 = c34 .before .before .before .before in let c44 = c38 .before .before .before .before .before .before in form-remembered _ _ _ _ _ _ ((c44 .pre .1)) ((c38 .if1 .left)) _ _ _ ((c34 .row-of .ensures)) _ ((c28 .lead-at .ensures)) _ ((c25 .key .ensures)) _ ((c24 .place .ensures)) _ _ _ _ (kept-is ((c5 .k2 .given) .1) ((c15 .normal-deep .ensures))) _ ((c .before .before .remember .ensures))
 
 normal-meet-normal-form-requires : (t : ℕ) → normal-meet-lts.Need-normal-form-requires (normal-meet-calls t) (normal-meet-at t) normal-meet.Post
 normal-meet-normal-form-requires t c κs = let c11 = c .before .before .before .before .before .before .before .before .before .before .before in a-asks _ _ _ _ _ _ _ _ _ (c11 .pre .1) _ (c11 .pre .0)
@@ -497,6 +501,7 @@ pub +meet-rest+normal-below+normal-deep+normal-form+normal-meet-spec : {M : Type
     (normal-form-same-length-4 t)
     (normal-form-returns-2 t)
     (normal-form-key-requires t)
+    (normal-form-place-requires t)
     (normal-form-recall-requires t)
     (normal-form-enum-known-k t)
     (normal-form-same-length-5 t)
@@ -544,3 +549,4 @@ pub +meet-rest+normal-below+normal-deep+normal-form+normal-meet-spec : {M : Type
     (normal-meet-same-length-11 t)
     (normal-meet-same-length-12 t)
     (normal-meet-returns-3 t)
+
