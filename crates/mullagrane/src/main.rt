@@ -1,12 +1,13 @@
 // The program: reads an AIGER text from standard input and prints a verdict for every output, in a table of 4,096 rows. The system is built once.
 use aiger::header::Sizes;
 use aiger::net::NetRead;
+use aiger::net::Refusal;
 use libc::STDIN_FILENO;
 use libc::STDOUT_FILENO;
-use nets::for_circuit::number_of;
 use nets::for_circuit::read_net;
 use outputs::system;
 use printing::print;
+use printing::print_refusal;
 use table::make::Made;
 ghost use lib.ListN.{length};
 ghost use Rattle.steps.specs.Table.{slices};
@@ -97,14 +98,10 @@ fn judge_net(h: Sizes, ins: &[u16], outs: &[u16], lefts: &[u16], rights0: &[u16]
     );
 }
 
-fn print_refused(why: u16) -> bool {
-    if !io::write_all(STDOUT_FILENO, b"refused ") {
-        return false;
-    }
-    if !io::print_decimal(STDOUT_FILENO, why as u64) {
-        return false;
-    }
-    io::write_all(STDOUT_FILENO, b"\n")
+fn print_refused(why: Refusal) {
+    let mut line = [0u8; 16];
+    let k = print_refusal(why, &mut line);
+    io::write_all(STDOUT_FILENO, &line[..k]);
 }
 
 fn judge_text(text: &[u8]) {
@@ -123,9 +120,7 @@ fn judge_text(text: &[u8]) {
     );
     match r {
         NetRead::Whole(h, _) => judge_net(h, &ins, &outs, &lefts, &rights0, &rights1),
-        NetRead::Unread(why) => {
-            print_refused(number_of(why));
-        }
+        NetRead::Unread(why) => print_refused(why),
     }
 }
 

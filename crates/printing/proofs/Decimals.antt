@@ -6,6 +6,9 @@ use mathlib.Core.List.{List, [], _∷_, _++_}
 use native.Mathlib.Omega.{arith}
 use lib.Dec.{ltb}
 use borrow.Author.Tests.{ltb-true}
+use Rattle.aiger.specs.Answers.{numberOfRefusal}
+use Rattle.aiger.specs.declared.net.Refusal.{Refusal}
+use Rattle.aiger.specs.declared.net.Refusal.the-variants.{TooLong, Form, Limits, Literal, Order}
 use Rattle.printing.specs.Text.{decimal}
 
 -- the number whose digits are n's and those
@@ -29,3 +32,11 @@ decimal-reads (suc k) n h = go (ltb n 10) refl (decimal-reads k (n / 10) (omega 
     go : (b : Bool) → ltb n 10 ≡ b → reading 0 (decimal k (n / 10)) ≡ n / 10 → reading 0 (cond b ((48 + n % 10) ∷ []) (decimal k (n / 10) ++ (48 + n % 10) ∷ [])) ≡ n
     go true e i = let small = ltb-true n 10 e in omega (arith, small)
     go false e i = reading-last 0 (decimal k (n / 10)) (48 + n % 10) ∙ ap (λ (m : ℕ). m * 10 + (48 + n % 10 - 48)) i ∙ omega arith
+
+-- the two digits of a refusal's number are enough
+pub refusal-reads : (why : Refusal) → reading 0 (decimal 1 (numberOfRefusal why)) ≡ numberOfRefusal why
+refusal-reads TooLong = refl
+refusal-reads (Form w n) = refl
+refusal-reads Limits = refl
+refusal-reads (Literal n) = refl
+refusal-reads (Order n) = refl

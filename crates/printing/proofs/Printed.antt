@@ -1,4 +1,4 @@
--- What is printed of an output is the text of what the circuit call leaves, whatever stands in the table that the call is lent.
+-- What is printed of an output is the text of what the circuit call leaves, whatever stands in the table that the call is lent; of a refused text it is the text call's number.
 use Prim.Native.Nat.{ℕ}
 use mathlib.Core.Path.{_≡_, refl, sym, ap, _∙_}
 use mathlib.Core.List.{List}
@@ -6,14 +6,17 @@ use lib.ListN.{take}
 use Rattle.steps.specs.Table.{Slices}
 use Rattle.table.specs.declared.make.Made.{Made}
 use Rattle.table.specs.Lent.{room}
-use Rattle.aiger.specs.Answers.{Slices as NetSlices, netIn}
-use Rattle.aiger.specs.Net.{got, circuit}
+use Rattle.aiger.specs.Answers.{Slices as NetSlices, netIn, answerOf, textCall}
+use Rattle.aiger.specs.Net.{got, refused as unread, circuit}
+use Rattle.aiger.specs.declared.Answer.{Answer}
+use Rattle.aiger.specs.declared.Answer.the-variants.{Counted, Refused}
 use Rattle.aiger.specs.declared.header.Sizes.{Sizes}
+use Rattle.aiger.specs.declared.net.Refusal.{Refusal}
 use Rattle.verdicts.specs.Calls.{Left, end-with, circuit-call}
 use Rattle.verdicts.specs.Verdicts.{Verdict, never, can, room-out, verdict-of}
 use Rattle.verdicts.proofs.Outcomes.{Passed, call-passes}
-use Rattle.printing.specs.Text.{printed}
-use Rattle.printing.specs.Inner.{Prints}
+use Rattle.printing.specs.Text.{printed, refused}
+use Rattle.printing.specs.Inner.{Prints, PrintsRefusal}
 
 same-text : (v : Verdict) (s t : Slices) (p : List ℕ) (o : ℕ) → printed (end-with v s p) o ≡ printed (end-with v t p) o
 same-text (never R) s t p o = refl
@@ -29,3 +32,12 @@ printed-verdict {s = s} {h = h} {x = x} {o = o} {p = p} prints text rest reads s
     prints .text ∙ same-text (verdict-of net (room s) o) s s₀ p o
     ∙ ap (λ (n : ℕ). printed (end-with (verdict-of net n o) s₀ p) o) (sym size)
     ∙ ap (λ (call : Left). printed call o) (sym (call-passes text net rest reads s₀ o p passed))
+
+abbrev number : Answer → ℕ
+number (Counted i o) = 0
+number (Refused n) = n
+
+-- of a refused text it is the number that the text call answers
+pub printed-refusal : {why : Refusal} {k : ℕ} {line : List ℕ} → PrintsRefusal why line k
+    → (text : List ℕ) → circuit text ≡ unread why → (n : ℕ) → textCall text ≡ Refused n → take k line ≡ refused n
+printed-refusal prints text reads n answer = prints .text ∙ ap refused (ap number (sym (ap answerOf reads) ∙ answer))

@@ -39,6 +39,19 @@ put-then {l} {l₁} {l₂} {at} {r} {r₁} {xs} {ys} a b = record {
 pub put-as : {l l₁ : List ℕ} {at r : ℕ} {xs ys : List ℕ} → Put l l₁ at xs r → xs ≡ ys → Put l l₁ at ys r
 put-as {l} {l₁} {at} {r} p e = subst (λ (z : List ℕ). Put l l₁ at z r) e p
 
+-- bytes that are given
+
+module _ (bytes : List ℕ) (i : ℕ) where
+  -- the first i bytes are put, and then the next
+  pub bytes-next : {l l₁ l₂ : List ℕ} {at r r₁ : ℕ} → Put l l₁ at (take i bytes) r → Put l₁ l₂ r (getD bytes i 0 ∷ []) r₁ → i < length bytes → Put l l₂ at (take (i + 1) bytes) r₁
+  bytes-next a n h = put-as (put-then a n) (sym (ap (λ (n : ℕ). take n bytes) (plus-one i) ∙ take-suc bytes i 0 h))
+
+  pub bytes-end : {l l₁ : List ℕ} {at r : ℕ} → Put l l₁ at (take i bytes) r → i ≤ length bytes → r ≡ at + i
+  bytes-end {at = at} a h = a .ends ∙ ap (λ (n : ℕ). at + n) (length-take-le i bytes h)
+
+  pub bytes-all : {l l₁ : List ℕ} {at r : ℕ} → Put l l₁ at (take i bytes) r → length bytes ≤ i → Put l l₁ at bytes r
+  bytes-all a h = put-as a (take-all i bytes h)
+
 -- decimal digits
 
 pub decimal-one : (k n : ℕ) → k ≡ 0 → (48 + n % 10) ∷ [] ≡ decimal k n

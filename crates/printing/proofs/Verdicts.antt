@@ -1,4 +1,4 @@
--- The text of an output is the text of its verdict.
+-- The text of an output is the text of its verdict, and of a refusal that of its number.
 use Prim.Native.Nat.{ℕ}
 use mathlib.Core.Path.{_≡_, sym, ap, _∙_, subst}
 use mathlib.Core.List.{List}
@@ -7,16 +7,17 @@ use Rattle.table.specs.declared.Row.{Row}
 use Rattle.table.specs.declared.make.Made.{Made}
 use Rattle.table.specs.declared.make.Made.the-variants.{At, Full}
 use Rattle.table.specs.Lent.{room}
-use Rattle.aiger.specs.Answers.{Slices as NetSlices, netIn}
+use Rattle.aiger.specs.Answers.{Slices as NetSlices, netIn, numberOfRefusal}
 use Rattle.aiger.specs.declared.header.Sizes.{Sizes}
+use Rattle.aiger.specs.declared.net.Refusal.{Refusal}
 use Rattle.verdicts.specs.Calls.{Answer, verdict-2, end-with}
 use Rattle.verdicts.specs.Verdicts.{Verdict, verdict-of}
 use Rattle.circuit.specs.declared.Judged.{Judged}
 use Rattle.circuit.specs.Answers.{answer-of}
 use Rattle.outputs.specs.Inner.{Built, BuiltIf, OutputOf, JudgedAs}
 use Rattle.outputs.proofs.Judging.{built-stays}
-use Rattle.printing.specs.Text.{block, printed}
-use Rattle.printing.specs.Inner.{Put, Asked, Prints}
+use Rattle.printing.specs.Text.{block, printed, refused}
+use Rattle.printing.specs.Inner.{Put, Asked, Prints, PrintsRefusal}
 
 pub as-judged : {l l₁ : List ℕ} {at k : ℕ} (r r′ : Judged) (o : ℕ) (p : List ℕ) → r ≡ r′ → Put l l₁ at (block (answer-of r′) o p) k → Put l l₁ at (block (answer-of r) o p) k
 as-judged {l} {l₁} {at} {k} r r′ o p e put = subst (λ (j : Judged). Put l l₁ at (block (answer-of j) o p) k) (sym e) put
@@ -42,3 +43,6 @@ module _ {made : Made} {s : Slices} {h : Sizes} {x : NetSlices} {o I L : ℕ} (a
     fits = put .fits;
     stands = a .built;
   }
+
+pub prints-refusal : {why : Refusal} {n k : ℕ} {l l′ : List ℕ} → n ≡ numberOfRefusal why → Put l l′ 0 (refused n) k → PrintsRefusal why l′ k
+prints-refusal e put = record { text = put .text ∙ ap refused e; fits = put .fits }

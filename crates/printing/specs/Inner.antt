@@ -7,12 +7,13 @@ use lib.ListN.{length, take}
 use Rattle.steps.specs.Table.{Slices}
 use Rattle.table.specs.declared.make.Made.{Made}
 use Rattle.table.specs.Lent.{room}
-use Rattle.aiger.specs.Answers.{Slices as NetSlices, netIn}
+use Rattle.aiger.specs.Answers.{Slices as NetSlices, netIn, numberOfRefusal}
 use Rattle.aiger.specs.declared.header.Sizes.{Sizes}
+use Rattle.aiger.specs.declared.net.Refusal.{Refusal}
 use Rattle.verdicts.specs.Calls.{end-with}
 use Rattle.verdicts.specs.Verdicts.{verdict-of}
 use Rattle.outputs.specs.Inner.{BuiltIf}
-use Rattle.printing.specs.Text.{printed}
+use Rattle.printing.specs.Text.{printed, refused}
 
 -- xs stands behind the first at bytes of the line and ends before byte r
 pub record Put (line line′ : List ℕ) (at : ℕ) (xs : List ℕ) (r : ℕ) : Type 0 where
@@ -33,3 +34,8 @@ pub record Prints (made : Made) (s s′ : Slices) (h : Sizes) (x : NetSlices) (o
   pub text : take k line′ ≡ printed (end-with (verdict-of (netIn h x) (room s) o) s p) o
   pub fits : k ≤ length line′
   pub stands : BuiltIf made s′ h x
+
+-- WHAT IS PRINTED OF A REFUSAL IS ITS NUMBER: the first k bytes of the line are the text of the paper's number of it
+pub record PrintsRefusal (why : Refusal) (line′ : List ℕ) (k : ℕ) : Type 0 where
+  pub text : take k line′ ≡ refused (numberOfRefusal why)
+  pub fits : k ≤ length line′

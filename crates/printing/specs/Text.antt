@@ -1,4 +1,4 @@
--- What the program prints of an output: "One printed run".
+-- What the program prints of an output and of a refusal: "One printed run".
 -- Assumes nothing: these are definitions.
 use Prim.Native.Nat.{ℕ, zero, suc, _+_, _/_, _%_}
 use mathlib.Core.Bool.{cond}
@@ -33,3 +33,7 @@ block (refusal why) o p = []
 -- of what a call leaves
 abbrev pub printed : Left → ℕ → List ℕ
 printed call o = block (call .answer) o (call .pattern)
+
+-- "A refused text prints only `refused` with a space and the number.": on a line; the number, at most 13, in at most two digits
+abbrev pub refused : ℕ → List ℕ
+refused n = 114 ∷ 101 ∷ 102 ∷ 117 ∷ 115 ∷ 101 ∷ 100 ∷ 32 ∷ decimal 1 n ++ 10 ∷ []

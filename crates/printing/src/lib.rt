@@ -1,15 +1,19 @@
-// For the program: what it prints of an output, laid down in a lent line. Nothing here is a call of the scope.
+// For the program: what it prints of an output or a refusal, laid down in a lent line. Nothing here is a call of the scope.
 mod line;
 
 use crate::line::block;
+use crate::line::refused;
 use aiger::header::Sizes;
+use aiger::net::Refusal;
 use circuit::Judged;
+use nets::for_circuit::number_of;
 use outputs::judge;
 use table::make::Made;
+ghost use Prim.Native.Nat.{_≤_};
 ghost use lib.ListN.{length};
 ghost use Rattle.steps.specs.Table.{slices};
 ghost use Rattle.aiger.specs.Answers as net;
-ghost use Rattle.printing.specs.Inner.{Asked, Prints};
+ghost use Rattle.printing.specs.Inner.{Asked, Prints, PrintsRefusal};
 
 // The block of output o, from the system or from the want of room for it; tells how many bytes.
 pub fn print(
@@ -58,4 +62,12 @@ pub fn print(
         }
         Made::Full => block(Judged::RoomOut, o, pattern, line),
     }
+}
+
+// The line of a refused text; tells how many bytes.
+pub fn print_refusal(why: Refusal, line: &mut [u8]) -> usize
+    requires { ⌜ 16 ≤ length (now line) ⌝ }
+    ensures { λ k. ⌜ PrintsRefusal why (now (line .exit)) k ⌝ }
+{
+    refused(number_of(why), line)
 }

@@ -33,6 +33,20 @@ fn put_decimal(line: &mut [u8], at: usize, k: usize, n: usize) -> usize
     put(line, end, last)
 }
 
+// Bytes that are given.
+fn put_all(line: &mut [u8], at: usize, bytes: &[u8]) -> usize
+    requires { ⌜ at + length (now bytes) ≤ length (now line) ⌝ }
+    ensures { λ r. ⌜ Put (now (line .entry)) (now (line .exit)) at (now (bytes .entry)) r ⌝ }
+{
+    let mut end = at;
+    let mut i = 0;
+    while i < bytes.len() {
+        end = put(line, end, bytes[i]);
+        i += 1;
+    }
+    end
+}
+
 fn put_heading(line: &mut [u8], verdict: u8, o: usize) -> usize
     requires { ⌜ (verdict < 3) × (16 ≤ length (now line)) ⌝ }
     ensures { λ r. ⌜ Put (now (line .entry)) (now (line .exit)) 0 (text.heading verdict o) r ⌝ }
@@ -106,4 +120,14 @@ pub fn block(r: Judged, o: usize, pattern: &[u8], line: &mut [u8]) -> usize
         Judged::RoomOut => put_verdict(line, 2, o),
         Judged::Refused(_) => 0,
     }
+}
+
+// The number of a refusal.
+pub fn refused(number: u16, line: &mut [u8]) -> usize
+    requires { ⌜ 16 ≤ length (now line) ⌝ }
+    ensures { λ k. ⌜ Put (now (line .entry)) (now (line .exit)) 0 (text.refused number) k ⌝ }
+{
+    let a = put_all(line, 0, b"refused ");
+    let b = put_decimal(line, a, 1, number as usize);
+    put(line, b, b'\n')
 }

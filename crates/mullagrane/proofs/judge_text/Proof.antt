@@ -7,7 +7,6 @@ use Rattle.mullagrane.proofs.judge_text.Statement.{statement}
 use Rattle.mullagrane.proofs.judge_text.Tie as tie
 use Rattle.mullagrane.proofs.judge_text.Reads as reads
 use Rattle.mullagrane.proofs.judge_text.Lts as lts
-use Rattle.nets.proofs.for_circuit.number_of.Reads as number-of-reads
 use Rattle.nets.proofs.for_circuit.read_net.Reads as read-net-reads
 use Rattle.mullagrane.proofs.judge_net.Reads as judge-net-reads
 use Rattle.mullagrane.proofs.print_refused.Reads as print-refused-reads
@@ -54,9 +53,6 @@ judge-net-requires c κs = let c6 = c .before .before .before .before .before .b
 enum-known-r-2 : tie.Need-enum-known-r-2
 enum-known-r-2 c = search needs
 
-number-of-requires : tie.Need-number-of-requires
-number-of-requires c κs = search needs
-
 print-refused-requires : tie.Need-print-refused-requires
 print-refused-requires c κs = search needs
 
@@ -84,7 +80,6 @@ judge-text-spec =
     slice-aggregate-judge-net-5
     judge-net-requires
     enum-known-r-2
-    number-of-requires
     print-refused-requires
     returns
     returns-2)
