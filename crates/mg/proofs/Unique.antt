@@ -13,7 +13,7 @@ use Rattle.verdicts.specs.Calls.{Left as Circuit-left, left as circuit-left, An
 use Rattle.circuit.specs.Answers.{answer-of, Answered}
 use Rattle.circuit.specs.declared.Judged.{Judged}
 use Rattle.circuit.specs.declared.Judged.the-variants.{Never, Can, RoomOut, Refused}
-use Rattle.mg.specs.Seen.{Seen, seen, Shows, show-made, show-value, show-one, show-verdict, show-counts}
+use Rattle.shown.specs.Seen.{Seen, seen, Shows, show-made, show-value, show-one, show-verdict, show-counts}
 
 -- answers that coincide are shown alike
 module _ {R A : Type 0} {show : R → A → Seen A} {P P′ : R → Type 0} {k k′ : ℕ} {held outs outs′ : A} (a : Shows show P k held outs) (b : Shows show P′ k′ held outs′) where

@@ -35,7 +35,7 @@ use Rattle.verdicts.specs.Verdicts.{Verdict, never, can, room-out, verdict-of}
 use Rattle.circuit.specs.Answers.{answer-of, Answered as Circuit-answered}
 use Rattle.circuit.specs.declared.Judged.{Judged}
 use Rattle.circuit.specs.declared.Judged.the-variants.{Never, Can, RoomOut, Refused as Circuit-refused}
-use Rattle.mg.specs.Seen.{Seen, seen, Shows, show-made, show-value, show-one, show-verdict, show-counts}
+use Rattle.shown.specs.Seen.{Seen, seen, Shows, show-made, show-value, show-one, show-verdict, show-counts}
 
 -- of outcomes D, of which some refuse with a number: d refuses with none that is 0
 pub record Numbered {D : Type 0} (refuses : D → ℕ → Type 0) (d : D) : Type 0 where

@@ -1,6 +1,4 @@
 // The calls as C sees them, declared in include/mg.h: each makes the public call of its name and shows the answer. The promise is the public call's own.
-mod show;
-
 use table::Row;
 use table::Var;
 ghost use mathlib.Core.Path.{_≡_};
@@ -15,7 +13,7 @@ ghost use Rattle.normal.specs.Calls.{equation-call, Adds, normal-call, Reduced}
 ghost use Rattle.aiger.specs.Answers.{textCall};
 ghost use Rattle.verdicts.specs.Calls.{circuit-call};
 ghost use Rattle.circuit.specs.Answers as judged;
-ghost use Rattle.mg.specs.Seen.{Shows, show-made, show-value, show-one, show-verdict, show-counts};
+ghost use Rattle.shown.specs.Seen.{Shows, show-made, show-value, show-one, show-verdict, show-counts};
 
 // The variable x_v.
 #[no_mangle]
@@ -37,7 +35,7 @@ pub extern "C" fn mg_variable(
     ensures { λ _. ⌜ now (work .exit) ≡ replicate (length (now (work .entry))) 0 ⌝ }
 {
     let r = numbers::variable(n, vs, ts, es, count, work, Var(v));
-    show::made(r, row, used)
+    shown::made(r, row, used)
 }
 
 // The sum f + g.
@@ -62,7 +60,7 @@ pub extern "C" fn mg_sum(
     ensures { λ _. ⌜ now (work .exit) ≡ replicate (length (now (work .entry))) 0 ⌝ }
 {
     let r = sums::sum(n, vs, ts, es, count, work, Row(f), Row(g));
-    show::made(r, row, used)
+    shown::made(r, row, used)
 }
 
 // The product f·g.
@@ -87,7 +85,7 @@ pub extern "C" fn mg_product(
     ensures { λ _. ⌜ now (work .exit) ≡ replicate (length (now (work .entry))) 0 ⌝ }
 {
     let r = products::product(n, vs, ts, es, count, work, Row(f), Row(g));
-    show::made(r, row, used)
+    shown::made(r, row, used)
 }
 
 // The value of f at an assignment.
@@ -109,7 +107,7 @@ pub extern "C" fn mg_value(
     ensures { λ _. ⌜ now (work .exit) ≡ replicate (length (now (work .entry))) 0 ⌝ }
 {
     let r = numbers::value(n, vs, ts, es, count, work, Row(f), bytes);
-    show::value(r, value)
+    shown::value(r, value)
 }
 
 // A one of f: the least.
@@ -131,7 +129,7 @@ pub extern "C" fn mg_one(
     ensures { λ _. ⌜ now (work .exit) ≡ replicate (length (now (work .entry))) 0 ⌝ }
 {
     let r = numbers::one(n, vs, ts, es, count, work, Row(f), bytes);
-    show::one(r)
+    shown::one(r)
 }
 
 // The system with the equation x_lead + tail = 0 added.
@@ -167,7 +165,7 @@ pub extern "C" fn mg_equation(
         Row(system),
         Row(tail),
     );
-    show::made(r, row, used)
+    shown::made(r, row, used)
 }
 
 // The normal form of p by a system.
@@ -192,7 +190,7 @@ pub extern "C" fn mg_normal_form(
     ensures { λ _. ⌜ now (work .exit) ≡ replicate (length (now (work .entry))) 0 ⌝ }
 {
     let r = normal::normal_form(n, vs, ts, es, count, work, Row(p), Row(system));
-    show::made(r, row, used)
+    shown::made(r, row, used)
 }
 
 // The verdict for one output of a circuit's text.
@@ -215,7 +213,7 @@ pub extern "C" fn mg_circuit(
     ensures { λ _. ⌜ now (work .exit) ≡ replicate (length (now (work .entry))) 0 ⌝ }
 {
     let r = circuit::circuit(text, vs, ts, es, work, o, pattern);
-    show::verdict(r, verdict, rows)
+    shown::verdict(r, verdict, rows)
 }
 
 // I and O of a circuit's text.
@@ -226,5 +224,5 @@ pub extern "C" fn mg_text(text: &[u8], inputs: &mut usize, outputs: &mut usize) 
         k (now (inputs .entry), now (outputs .entry)) (now (inputs .exit), now (outputs .exit)) ⌝ }
 {
     let r = nets::text(text);
-    show::counts(r, inputs, outputs)
+    shown::counts(r, inputs, outputs)
 }

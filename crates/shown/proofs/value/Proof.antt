@@ -1,9 +1,9 @@
-use Rattle.mg.proofs.Shown.{value-shown}
+use Rattle.shown.proofs.Shown.{value-shown}
 use borrow.Author.Needs.{needs}
-use Rattle.mg.proofs.show.value.Statement.{statement}
-use Rattle.mg.proofs.show.value.Tie as tie
-use Rattle.mg.proofs.show.value.Reads as reads
-use Rattle.mg.proofs.show.value.Lts as lts
+use Rattle.shown.proofs.value.Statement.{statement}
+use Rattle.shown.proofs.value.Tie as tie
+use Rattle.shown.proofs.value.Reads as reads
+use Rattle.shown.proofs.value.Lts as lts
 
 enum-known-r : tie.Need-enum-known-r
 enum-known-r c = search needs

@@ -5,7 +5,7 @@ use mathlib.Core.Bool.{Bool, true, false}
 use mir.Val.{boolByte}
 use Rattle.numbers.specs.declared.Valued.{Valued}
 use Rattle.numbers.specs.declared.Valued.the-variants.{Value}
-use Rattle.mg.specs.Seen.{seen, show-value}
+use Rattle.shown.specs.Seen.{seen, show-value}
 
 as-byte : (b : Bool) (held : ℕ) → show-value (Value b) held ≡ seen 0 (boolByte b)
 as-byte true held = refl

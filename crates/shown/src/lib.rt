@@ -1,10 +1,10 @@
-// What C sees of an answer: 0 with the out-parameters written, or the refusal's number with the out-parameters as they were.
+// For the calls from C: what C sees of an answer, 0 with the out-parameters written, or the refusal's number with the out-parameters as they were.
 use circuit::Judged;
 use numbers::Sought;
 use numbers::Valued;
 use table::Answer;
 ghost use mathlib.Core.Path.{_≡_};
-ghost use Rattle.mg.specs.Seen.{seen, show-made, show-value, show-one, show-verdict, show-counts};
+ghost use Rattle.shown.specs.Seen.{seen, show-made, show-value, show-one, show-verdict, show-counts};
 
 pub fn made(r: Answer, row: &mut u16, used: &mut usize) -> u32
     ensures { λ k. ⌜ show-made r (now (row .entry), now (used .entry)) ≡ seen k (now (row .exit), now (used .exit)) ⌝ }
