@@ -549,4 +549,3 @@ pub +meet-rest+normal-below+normal-deep+normal-form+normal-meet-spec : {M : Type
     (normal-meet-same-length-11 t)
     (normal-meet-same-length-12 t)
     (normal-meet-returns-3 t)
-

@@ -513,4 +513,3 @@ pub +product+product-deep+then-part+then-rest-spec : {M : Type 1} → statement 
     (then-rest-same-length-11 t)
     (then-rest-same-length-12 t)
     (then-rest-returns-3 t)
-

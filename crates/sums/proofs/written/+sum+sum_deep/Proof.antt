@@ -262,4 +262,3 @@ pub +sum+sum-deep-spec : {M : Type 1} → statement M
     (sum-deep-same-length-11 t)
     (sum-deep-same-length-12 t)
     (sum-deep-returns-3 t)
-
