@@ -9,7 +9,7 @@ use lib.ListN.{length, getD, set, take, length-set, length-map}
 use lib.Seq.{getD-set-same, getD-set-other, getD-take, length-take-le, ext-getD}
 use borrow.Author.Tests.{eqb-true, eqb-false}
 use Rattle.steps.specs.One.{one}
-use Rattle.steps.specs.Rows.{Rows, none, _▹_, next, row, root, Assignment}
+use Rattle.steps.specs.Rows.{Rows, none, _▹_, next, row, root, Assignment, bit}
 use Rattle.steps.specs.Sound.{Sound}
 use Rattle.steps.specs.Table.{Slices, rows-of}
 use Rattle.numbers.specs.Calls.{bytes-of}
@@ -84,12 +84,12 @@ module _ (M c : ℕ) (s : Slices) (k : ℕ) (ins p₀ : List ℕ) (a : PatternAs
   f l = found (ring M (l / 2))
 
   long-enough : length (bytes (map f (take (length p₀) ins))) ≡ length p₀
-  long-enough = length-map (map f (take (length p₀) ins)) byte ∙ length-map (take (length p₀) ins) f ∙ length-take-le (length p₀) ins (a .long)
+  long-enough = length-map (map f (take (length p₀) ins)) bit ∙ length-map (take (length p₀) ins) f ∙ length-take-le (length p₀) ins (a .long)
 
-  there : (j : ℕ) → j < length p₀ → getD (bytes (map f (take (length p₀) ins))) j 0 ≡ byte (f (getD ins j 0))
+  there : (j : ℕ) → j < length p₀ → getD (bytes (map f (take (length p₀) ins))) j 0 ≡ bit (f (getD ins j 0))
   there j g =
-      ap (λ (l : List ℕ). getD l j 0) (map-map byte f (take (length p₀) ins)) ∙ getD-mapped (λ l. byte (f l)) (take (length p₀) ins) j (omega (arith, length-take-le (length p₀) ins (a .long)))
-      ∙ ap (λ (l : ℕ). byte (f l)) (getD-take (length p₀) ins j 0 g)
+      ap (λ (l : List ℕ). getD l j 0) (map-map bit f (take (length p₀) ins)) ∙ getD-mapped (λ l. bit (f l)) (take (length p₀) ins) j (omega (arith, length-take-le (length p₀) ins (a .long)))
+      ∙ ap (λ (l : ℕ). bit (f l)) (getD-take (length p₀) ins j 0 g)
 
   pub written-end : {p ones : List ℕ} {i : ℕ} → Written M ins p₀ p ones i → length p ≤ i → ones ≡ bytes-of 1024 (one (rows-of s c) k) → p ≡ bytes-at M (one (rows-of s c) k) (take (length p₀) ins)
   written-end {p} {ones} {i} x h e =
