@@ -1,6 +1,5 @@
 // For the crates above: the checks that every call on a table makes first.
 use crate::clear::zero_words;
-use table::Row;
 use table::index::Found;
 use table::index::enter;
 use table::index::find;
@@ -62,11 +61,11 @@ fn parts_fit(vs: &[u16], ts: &[u16], es: &[u16], n: u16, i: usize, x: Node) -> b
     if x.t.0 == 0 {
         return false;
     }
-    let t = row_of(vs, ts, es, i, n, Row(x.t.0));
+    let t = row_of(vs, ts, es, i, n, x.t);
     if t.v.0 <= x.v.0 {
         return false;
     }
-    let e = row_of(vs, ts, es, i, n, Row(x.e.0));
+    let e = row_of(vs, ts, es, i, n, x.e);
     x.v.0 < e.v.0
 }
 

@@ -1,6 +1,8 @@
 // For this crate and the one above: the pattern that makes an output 1.
+use aiger::lines::Lit;
 use numbers::seek::one_of;
 use table::Row;
+use table::Var;
 ghost use mathlib.Core.Path.{_≡_};
 ghost use lib.ListN.{length, take};
 ghost use Rattle.steps.specs.One.{one};
@@ -26,8 +28,9 @@ pub fn write_pattern(
     one_of(vs, ts, es, count, k, &mut ones);
     let mut i = 0;
     while i < pattern.len() {
-        let v = n - ins[i] / 2;
-        pattern[i] = ones[v as usize];
+        let l = Lit(ins[i]);
+        let v = Var(n - l.0 / 2);
+        pattern[i] = ones[v.0 as usize];
         i += 1;
     }
 }

@@ -49,12 +49,12 @@ pub fn lead_at(
 }
 
 // What is left of g, whose leads are at v or behind it, once a lead at v is skipped, too.
-fn past(vs: &[u16], ts: &[u16], es: &[u16], n: u16, count: usize, g: Row, v: u16) -> Row
+fn past(vs: &[u16], ts: &[u16], es: &[u16], n: u16, count: usize, g: Row, v: Var) -> Row
     requires { ⌜ Numbered count (slices (now vs) (now ts) (now es)) (g .0) ⌝ }
-    ensures { λ r. ⌜ Past n (rows-of (slices (now (vs .entry)) (now (ts .entry)) (now (es .entry))) count) v (g .0) (r .0) ⌝ }
+    ensures { λ r. ⌜ Past n (rows-of (slices (now (vs .entry)) (now (ts .entry)) (now (es .entry))) count) (v .0) (g .0) (r .0) ⌝ }
 {
     let a = row_of(vs, ts, es, count, n, g);
-    if v < a.v.0 {
+    if v.0 < a.v.0 {
         return g;
     }
     a.t
@@ -70,10 +70,10 @@ pub fn fill(vs: &[u16], ts: &[u16], es: &[u16], work: &mut [u64], n: u16, count:
         return;
     }
     let mut g = f;
-    let mut v = 0;
-    while v < n {
-        work[from + v as usize] = g.0 as u64;
+    let mut v = Var(0);
+    while v.0 < n {
+        work[from + v.0 as usize] = g.0 as u64;
         g = past(vs, ts, es, n, count, g, v);
-        v += 1;
+        v = Var(v.0 + 1);
     }
 }

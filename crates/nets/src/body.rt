@@ -104,14 +104,15 @@ fn read_inputs(
     let mut k: usize = 0;
     while k < count {
         let r = line_of_number(s, at);
-        let Read::Number(l, p) = r else {
+        let Read::Number(number, p) = r else {
             return Lines::Stopped(Refusal::Form(read_fault(r), 2 + k));
         };
-        if !fresh(marks, m, Lit(l)) {
+        let l = Lit(number);
+        if !fresh(marks, m, l) {
             return Lines::Stopped(Refusal::Literal(2 + k));
         }
-        ins[k] = l;
-        let v = (l / 2) as usize;
+        ins[k] = l.0;
+        let v = (l.0 / 2) as usize;
         marks[v] = 1;
         at = p;
         k += 1;
@@ -128,10 +129,11 @@ fn read_outputs(s: &[u8], from: usize, n: usize, count: usize, outs: &mut [u16])
     let mut k: usize = 0;
     while k < count {
         let r = line_of_number(s, at);
-        let Read::Number(l, p) = r else {
+        let Read::Number(number, p) = r else {
             return Lines::Stopped(Refusal::Form(read_fault(r), n + k));
         };
-        outs[k] = l;
+        let l = Lit(number);
+        outs[k] = l.0;
         at = p;
         k += 1;
     }
@@ -156,14 +158,14 @@ fn read_gates(
 {
     let mut at = from;
     let mut k: usize = 0;
-    let mut last: u16 = 0;
+    let mut last = Lit(0);
     while k < count {
         let r = line_of_gate(s, at);
         let GateRead::Lits(g, next) = r else {
             return Lines::Stopped(Refusal::Form(gate_fault(r), n + k));
         };
         let is_new = fresh(marks, m, g.left);
-        let is_ordered = in_order(Lit(last), g);
+        let is_ordered = in_order(last, g);
         if !is_new {
             return Lines::Stopped(Refusal::Literal(n + k)); // the left
         }
@@ -178,7 +180,7 @@ fn read_gates(
         rights1[k] = g.right1.0;
         let left = (g.left.0 / 2) as usize;
         marks[left] = 1;
-        last = g.left.0;
+        last = g.left;
         at = next;
         k += 1;
     }

@@ -34,11 +34,11 @@ fn row_value(
     ensures { λ r. ⌜ bit (value (assigned (now (bytes .entry))) (rows-of (slices (now (vs .entry)) (now (ts .entry)) (now (es .entry))) count) (i + 2)) ≡ r ⌝ }
 {
     let x = node_at(vs, ts, es, i);
-    let e = bit_of(values, Row(x.e.0));
+    let e = bit_of(values, x.e);
     if bytes[x.v.0 as usize] != 1 {
         return e;
     }
-    let t = bit_of(values, Row(x.t.0));
+    let t = bit_of(values, x.t);
     if t == e { 0 } else { 1 }
 }
 

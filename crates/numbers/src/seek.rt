@@ -16,14 +16,14 @@ fn follow(vs: &[u16], ts: &[u16], es: &[u16], count: usize, f: Row, bytes: &mut 
     ensures { λ _. ⌜ now (bytes .exit) ≡ bytes-of (length (now (bytes .entry)))
         (one (rows-of (slices (now (vs .entry)) (now (ts .entry)) (now (es .entry))) count) (f .0)) ⌝ }
 {
-    let mut k = f.0 as usize;
-    while 2 <= k {
-        let x = node_at(vs, ts, es, k - 2);
+    let mut k = f;
+    while 2 <= k.0 {
+        let x = node_at(vs, ts, es, k.0 as usize - 2);
         if x.e.0 == 0 {
             bytes[x.v.0 as usize] = 1;
-            k = x.t.0 as usize;
+            k = x.t;
         } else {
-            k = x.e.0 as usize;
+            k = x.e;
         }
     }
 }

@@ -22,4 +22,3 @@ pub mod Comm
 pub mod Laws
 pub mod Theorems
 pub mod Equations
-pub mod Cases

@@ -22,28 +22,25 @@ pub fn split(vs: &[u16], ts: &[u16], es: &[u16], n: u16, count: usize, f: Row, g
     let a = row_of(vs, ts, es, count, n, f);
     let b = row_of(vs, ts, es, count, n, g);
     if a.v.0 < b.v.0 {
-        return Parts {
-            v: Var(a.v.0),
-            ft: Row(a.t.0),
-            gt: Row(0),
-            fe: Row(a.e.0),
-            ge: g,
-        };
+        let v = a.v;
+        let ft = a.t;
+        let gt = Row(0);
+        let fe = a.e;
+        let ge = g;
+        return Parts { v, ft, gt, fe, ge };
     }
     if b.v.0 < a.v.0 {
-        return Parts {
-            v: Var(b.v.0),
-            ft: Row(0),
-            gt: Row(b.t.0),
-            fe: f,
-            ge: Row(b.e.0),
-        };
+        let v = b.v;
+        let ft = Row(0);
+        let gt = b.t;
+        let fe = f;
+        let ge = b.e;
+        return Parts { v, ft, gt, fe, ge };
     }
-    Parts {
-        v: Var(a.v.0),
-        ft: Row(a.t.0),
-        gt: Row(b.t.0),
-        fe: Row(a.e.0),
-        ge: Row(b.e.0),
-    }
+    let v = a.v;
+    let ft = a.t;
+    let gt = b.t;
+    let fe = a.e;
+    let ge = b.e;
+    Parts { v, ft, gt, fe, ge }
 }

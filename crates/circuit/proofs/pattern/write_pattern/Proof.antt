@@ -20,25 +20,25 @@ slice-aggregate-one-of : tie.Need-slice-aggregate-one-of Inv-loop μ-loop
 slice-aggregate-one-of c = search needs
 
 one-of-requires : tie.Need-one-of-requires Inv-loop μ-loop
-one-of-requires c κs = let c6 = c .before .before .before .before .before .before in one-asks ((c6 .pre)) refl
+one-of-requires c κs = let c6 = c .before .before .before .before .before .before in one-asks (((c6 .pre))) refl
 
 loop-holds : tie.Need-loop-holds Inv-loop μ-loop
 loop-holds c = written-start _ _ _ _
 
-mul-v : tie.Need-mul-v Inv-loop μ-loop
-mul-v c = search needs
+mul-t16 : tie.Need-mul-t16 Inv-loop μ-loop
+mul-t16 c = search needs
 
-shared-slice-read-v : tie.Need-shared-slice-read-v Inv-loop μ-loop
-shared-slice-read-v c = let c11 = c .before .before .before .before .before .before .before .before .before .before .before in omega (arith, (c11 .pre .long), (c .before .before .loop .inv .same-length), (c .before .loop-test .taken))
+shared-slice-read-t19 : tie.Need-shared-slice-read-t19 Inv-loop μ-loop
+shared-slice-read-t19 c = let c11 = c .before .before .before .before .before .before .before .before .before .before .before in omega (arith, ((c11 .pre) .long), ((c .before .before .loop .inv) .same-length), ((c .before .loop-test .taken)))
 
-sub-v : tie.Need-sub-v Inv-loop μ-loop
-sub-v c = let c11 = c .before .before .before .before .before .before .before .before .before .before .before in omega (arith, (c11 .pre .low) ((c .before .before .loop .i)) (omega (arith, (c .before .before .loop .inv .same-length), (c .before .loop-test .taken))))
+sub-t20 : tie.Need-sub-t20 Inv-loop μ-loop
+sub-t20 c = let c3 = c .before .before .before in let c12 = c3 .before .before .before .before .before .before .before .before .before in omega (arith, ((c12 .pre) .low) (((c3 .loop .i))) (omega (arith, ((c3 .loop .inv) .same-length), ((c .before .before .loop-test .taken)))))
 
 cast-pattern : tie.Need-cast-pattern Inv-loop μ-loop
 cast-pattern c = search needs
 
 array-read-pattern : tie.Need-array-read-pattern Inv-loop μ-loop
-array-read-pattern c = let c11 = c .before .before .before .before .before .before .before .before .before .before .before in omega (arith, (c11 .pre .vars), (c11 .pre .positive) ((c .before .before .loop .i)) (omega (arith, (c .before .before .loop .inv .same-length), (c .before .loop-test .taken))), (c11 .pre .low) ((c .before .before .loop .i)) (omega (arith, (c .before .before .loop .inv .same-length), (c .before .loop-test .taken))))
+array-read-pattern c = let c3 = c .before .before .before in let c4 = c3 .before in let c13 = c4 .before .before .before .before .before .before .before .before .before in omega (arith, ((c13 .pre) .vars), ((c13 .pre) .positive) (((c4 .loop .i))) (omega (arith, ((c4 .loop .inv) .same-length), ((c3 .loop-test .taken)))), ((c13 .pre) .low) (((c4 .loop .i))) (omega (arith, ((c4 .loop .inv) .same-length), ((c3 .loop-test .taken)))))
 
 slice-write-pattern : tie.Need-slice-write-pattern Inv-loop μ-loop
 slice-write-pattern c = search needs
@@ -47,16 +47,16 @@ add-i : tie.Need-add-i Inv-loop μ-loop
 add-i c = search needs
 
 loop-less : tie.Need-loop-less Inv-loop μ-loop
-loop-less c = omega (arith, (c .before .before .loop .inv .same-length), (c .before .loop-test .taken))
+loop-less c = let c3 = c .before .before .before in let c4 = c3 .before in omega (arith, ((c4 .loop .inv) .same-length), ((c3 .loop-test .taken)))
 
 loop-again : tie.Need-loop-again Inv-loop μ-loop
-loop-again c = written-next _ _ _ _ ((c .before .before .loop .inv)) ((c .before .loop-test .taken))
+loop-again c = let c3 = c .before .before .before in let c4 = c3 .before in written-next _ _ _ _ (((c4 .loop .inv))) (((c3 .loop-test .taken)))
 
 same-length : tie.Need-same-length Inv-loop μ-loop
-same-length c = (c .before .loop .inv .same-length)
+same-length c = ((c .before .loop .inv) .same-length)
 
 returns : tie.Need-returns Inv-loop μ-loop
-returns c = let c3 = c .before .before .before in let c10 = c3 .before .before .before .before .before .before .before in written-end _ _ _ _ _ _ ((c10 .pre)) ((c .before .loop .inv)) ((c .loop-test .left)) ((c3 .one-of .ensures))
+returns c = let c3 = c .before .before .before in let c10 = c3 .before .before .before .before .before .before .before in written-end _ _ _ _ _ _ (((c10 .pre))) (((c .before .loop .inv))) (((c .loop-test .left))) (((c3 .one-of .ensures)))
 
 pub write-pattern-spec : {M : Type 1} → statement M
 write-pattern-spec =
@@ -67,9 +67,9 @@ write-pattern-spec =
     slice-aggregate-one-of
     one-of-requires
     loop-holds
-    mul-v
-    shared-slice-read-v
-    sub-v
+    mul-t16
+    shared-slice-read-t19
+    sub-t20
     cast-pattern
     array-read-pattern
     slice-write-pattern

@@ -11,7 +11,7 @@ use Rattle.nets.proofs.body.read_gates.Statement.{statement}
 use Rattle.nets.proofs.body.read_gates.Tie as tie
 
 abbrev Inv-loop : tie.InvT-loop
-Inv-loop s from m n count lefts₀ rights0₀ rights1₀ marks₀ at₀ k₀ last₀ lefts rights0 rights1 marks at k last = GatesInv s from m n count lefts₀ rights0₀ rights1₀ marks₀ lefts rights0 rights1 marks at k last
+Inv-loop s from m n count lefts₀ rights0₀ rights1₀ marks₀ at₀ k₀ last₀ lefts rights0 rights1 marks at k last = GatesInv s from m n count lefts₀ rights0₀ rights1₀ marks₀ lefts rights0 rights1 marks at k (last .0)
 
 abbrev μ-loop : tie.MeasureT-loop
 μ-loop s from m n count lefts₀ rights0₀ rights1₀ marks₀ at₀ k₀ last₀ lefts rights0 rights1 marks at k last = count - k
@@ -55,8 +55,8 @@ fresh-requires c κs = let c6 = c .before .before .before .before .before .befor
 in-order-requires : tie.Need-in-order-requires Inv-loop μ-loop
 in-order-requires c κs = tt
 
-add-t26 : tie.Need-add-t26 Inv-loop μ-loop
-add-t26 c = search needs
+add-t25 : tie.Need-add-t25 Inv-loop μ-loop
+add-t25 c = search needs
 
 same-length-5 : tie.Need-same-length-5 Inv-loop μ-loop
 same-length-5 c = let c9 = c .before .before .before .before .before .before .before .before .before in (c9 .loop .inv .same-x)
@@ -73,8 +73,8 @@ same-length-8 c = let c9 = c .before .before .before .before .before .before .be
 returns-2 : tie.Need-returns-2 Inv-loop μ-loop
 returns-2 c = let c5 = c .before .before .before .before .before in let c7 = c5 .before .before in let c8 = c7 .before in let c9 = c8 .before in gates-refused (c9 .loop .inv) Literal (λ ls m. gates-used _ _ _ _ _ _ _ _ (c8 .loop-test .taken) (gate-read _ (c7 .line-of-gate .ensures) (c5 .r .given .1)) (sym ((c .before .before .fresh .ensures .is) _ m) ∙ not-true _ (c .if1 .taken)))
 
-add-t28 : tie.Need-add-t28 Inv-loop μ-loop
-add-t28 c = search needs
+add-t27 : tie.Need-add-t27 Inv-loop μ-loop
+add-t27 c = search needs
 
 same-length-9 : tie.Need-same-length-9 Inv-loop μ-loop
 same-length-9 c = let c10 = c .before .before .before .before .before .before .before .before .before .before in (c10 .loop .inv .same-x)
@@ -92,10 +92,10 @@ returns-3 : tie.Need-returns-3 Inv-loop μ-loop
 returns-3 c = let c3 = c .before .before .before in let c6 = c3 .before .before .before in let c8 = c6 .before .before in let c9 = c8 .before in let c10 = c9 .before in gates-refused (c10 .loop .inv) Order (λ ls m. gates-order _ _ _ _ _ _ _ _ (c9 .loop-test .taken) (gate-read _ (c8 .line-of-gate .ensures) (c6 .r .given .1)) (sym ((c3 .fresh .ensures .is) _ m) ∙ not-false _ (c .before .if1 .left)) (sym (c .before .before .in-order .ensures) ∙ not-true _ (c .if2 .taken)))
 
 rights-defined-requires : tie.Need-rights-defined-requires Inv-loop μ-loop
-rights-defined-requires c κs = let c3 = c .before .before .before in let c4 = c3 .before in let c11 = c4 .before .before .before .before .before .before .before in let c17 = c11 .before .before .before .before .before .before in rights-asked (c11 .loop .last) (sym (c3 .in-order .ensures) ∙ not-false _ (c .before .if2 .left)) ((c4 .fresh .ensures .low) (not-false _ (c .before .before .if1 .left))) (c17 .pre .vars) ((c11 .loop .inv .long) ∙ (c17 .pre .long))
+rights-defined-requires c κs = let c3 = c .before .before .before in let c4 = c3 .before in let c11 = c4 .before .before .before .before .before .before .before in let c17 = c11 .before .before .before .before .before .before in rights-asked (c11 .loop .last .0) (sym (c3 .in-order .ensures) ∙ not-false _ (c .before .if2 .left)) ((c4 .fresh .ensures .low) (not-false _ (c .before .before .if1 .left))) (c17 .pre .vars) ((c11 .loop .inv .long) ∙ (c17 .pre .long))
 
-add-t33 : tie.Need-add-t33 Inv-loop μ-loop
-add-t33 c = search needs
+add-t32 : tie.Need-add-t32 Inv-loop μ-loop
+add-t32 c = search needs
 
 same-length-13 : tie.Need-same-length-13 Inv-loop μ-loop
 same-length-13 c = let c13 = c .before .before .before .before .before .before .before .before .before .before .before .before .before in (c13 .loop .inv .same-x)
@@ -143,7 +143,7 @@ loop-less : tie.Need-loop-less Inv-loop μ-loop
 loop-less c = search needs
 
 loop-again : tie.Need-loop-again Inv-loop μ-loop
-loop-again c = let c4 = c .before .before .before .before in let c5 = c4 .before in let c6 = c5 .before in let c7 = c6 .before in let c10 = c7 .before .before .before in let c12 = c10 .before .before in let c13 = c12 .before in let c14 = c13 .before in let c20 = c14 .before .before .before .before .before .before in gates-next (c14 .loop .inv) (c20 .pre .room) (c20 .pre .room0) (c20 .pre .room1) (c13 .loop-test .taken) (gate-read _ (c12 .line-of-gate .ensures) (c10 .r .given .1)) (λ ls m. sym ((c7 .fresh .ensures .is) ls m) ∙ not-false _ (c5 .if1 .left)) (sym (c6 .in-order .ensures) ∙ not-false _ (c4 .if2 .left)) (λ ls m. sym ((c .before .before .rights-defined .ensures) ls m) ∙ not-false _ (c .before .if3 .left)) (omega (arith, (c7 .fresh .ensures .low) (not-false _ (c5 .if1 .left))))
+loop-again c = let c3 = c .before .before .before in let c5 = c3 .before .before in let c6 = c5 .before in let c7 = c6 .before in let c8 = c7 .before in let c11 = c8 .before .before .before in let c13 = c11 .before .before in let c14 = c13 .before in let c15 = c14 .before in let c21 = c15 .before .before .before .before .before .before in gates-next (c15 .loop .inv) (c21 .pre .room) (c21 .pre .room0) (c21 .pre .room1) (c14 .loop-test .taken) (gate-read _ (c13 .line-of-gate .ensures) (c11 .r .given .1)) (λ ls m. sym ((c8 .fresh .ensures .is) ls m) ∙ not-false _ (c6 .if1 .left)) (sym (c7 .in-order .ensures) ∙ not-false _ (c5 .if2 .left)) (λ ls m. sym ((c3 .rights-defined .ensures) ls m) ∙ not-false _ (c .before .before .if3 .left)) (omega (arith, (c8 .fresh .ensures .low) (not-false _ (c6 .if1 .left))))
 
 same-length-17 : tie.Need-same-length-17 Inv-loop μ-loop
 same-length-17 c = (c .before .loop .inv .same-x)
@@ -179,20 +179,20 @@ read-gates-spec =
     returns
     fresh-requires
     in-order-requires
-    add-t26
+    add-t25
     same-length-5
     same-length-6
     same-length-7
     same-length-8
     returns-2
-    add-t28
+    add-t27
     same-length-9
     same-length-10
     same-length-11
     same-length-12
     returns-3
     rights-defined-requires
-    add-t33
+    add-t32
     same-length-13
     same-length-14
     same-length-15

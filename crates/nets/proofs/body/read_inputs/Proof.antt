@@ -31,8 +31,8 @@ enum-told c = c .match .keys2
 read-fault-requires : tie.Need-read-fault-requires Inv-loop μ-loop
 read-fault-requires c κs = tt
 
-add-t15 : tie.Need-add-t15 Inv-loop μ-loop
-add-t15 c = search needs
+add-t16 : tie.Need-add-t16 Inv-loop μ-loop
+add-t16 c = search needs
 
 same-length : tie.Need-same-length Inv-loop μ-loop
 same-length c = let c5 = c .before .before .before .before .before in (c5 .loop .inv .same)
@@ -68,7 +68,7 @@ cast-v : tie.Need-cast-v Inv-loop μ-loop
 cast-v c = search needs
 
 slice-write-marks : tie.Need-slice-write-marks Inv-loop μ-loop
-slice-write-marks c = let c8 = c .before .before .before .before .before .before .before .before in omega (arith, (c .before .fresh .ensures .low) (not-false _ (c .if1 .left)), (c8 .loop .inv .marked .long))
+slice-write-marks c = let c9 = c .before .before .before .before .before .before .before .before .before in omega (arith, (c .before .before .fresh .ensures .low) (not-false _ (c .before .if1 .left)), (c9 .loop .inv .marked .long))
 
 add-k : tie.Need-add-k Inv-loop μ-loop
 add-k c = search needs
@@ -77,7 +77,7 @@ loop-less : tie.Need-loop-less Inv-loop μ-loop
 loop-less c = search needs
 
 loop-again : tie.Need-loop-again Inv-loop μ-loop
-loop-again c = let c4 = c .before .before .before .before in let c6 = c4 .before .before in let c7 = c6 .before in let c8 = c7 .before in let c12 = c8 .before .before .before .before in inputs-next (c8 .loop .inv) (c12 .pre .room) (c7 .loop-test .taken) (number-read _ (c6 .line-of-number .ensures) (c4 .r .given .1)) (sym ((c .before .fresh .ensures .is) _ (c8 .loop .inv .marked)) ∙ not-false _ (c .if1 .left)) (omega (arith, (c .before .fresh .ensures .low) (not-false _ (c .if1 .left))))
+loop-again c = let c5 = c .before .before .before .before .before in let c7 = c5 .before .before in let c8 = c7 .before in let c9 = c8 .before in let c13 = c9 .before .before .before .before in inputs-next (c9 .loop .inv) (c13 .pre .room) (c8 .loop-test .taken) (number-read _ (c7 .line-of-number .ensures) (c5 .r .given .1)) (sym ((c .before .before .fresh .ensures .is) _ (c9 .loop .inv .marked)) ∙ not-false _ (c .before .if1 .left)) (omega (arith, (c .before .before .fresh .ensures .low) (not-false _ (c .before .if1 .left))))
 
 same-length-5 : tie.Need-same-length-5 Inv-loop μ-loop
 same-length-5 c = (c .before .loop .inv .same)
@@ -99,7 +99,7 @@ read-inputs-spec =
     enum-known-r
     enum-told
     read-fault-requires
-    add-t15
+    add-t16
     same-length
     same-length-2
     returns

@@ -28,8 +28,8 @@ enum-told c = c .match .keys2
 read-fault-requires : tie.Need-read-fault-requires Inv-loop μ-loop
 read-fault-requires c κs = tt
 
-add-t13 : tie.Need-add-t13 Inv-loop μ-loop
-add-t13 c = search needs
+add-t14 : tie.Need-add-t14 Inv-loop μ-loop
+add-t14 c = search needs
 
 same-length : tie.Need-same-length Inv-loop μ-loop
 same-length c = let c5 = c .before .before .before .before .before in (c5 .loop .inv .same)
@@ -69,7 +69,7 @@ read-outputs-spec =
     enum-known-r
     enum-told
     read-fault-requires
-    add-t13
+    add-t14
     same-length
     returns
     mul-outs

@@ -1,13 +1,18 @@
 -- "Proved cases. One theorem over one list, N = 3."
 use Prim.Native.Nat.{ℕ}
 use mathlib.Core.Path.{_≡_, refl}
-use mathlib.Core.Bool.{Bool, true, false, _&&_, not, Bool·beq}
+use mathlib.Core.Bool.{Bool, true, false, _&&_}
 use mathlib.Core.List.{List, [], _∷_}
 use lib.Dec.{eqb}
 use Rattle.steps.specs.One.{put, one}
-use Rattle.steps.specs.Rows.{none, next, value, row, find}
+use Rattle.steps.specs.Rows.{none, count, next, row, find}
+use Rattle.steps.specs.Sound.{fits, sound}
 use Rattle.steps.specs.Steps.{Steps, answer, _>>=_, make, sums, sum, products, product, normals, normal}
 use Rattle.steps.specs.System.{equation}
+use Rattle.steps.specs.Table.{slices, rows-of}
+use Rattle.table.specs.Calls.{in-range, column, laid}
+use Rattle.numbers.specs.Calls.{bytes-of, OneLeft, one-call}
+use Rattle.numbers.specs.declared.Sought.the-variants.{One, NoOne}
 
 -- polynomials and systems as the steps that make them
 abbrev x : ℕ → Steps
@@ -55,16 +60,26 @@ _is_ m n =
     let b = n (a .rows) in
     eqb (a .num) (b .num)
 
--- the one that is found has the values b0, b1 and b2
-abbrev one-of : Steps → Bool → Bool → Bool → Bool
-one-of m b0 b1 b2 =
+-- what the call one answers and leaves for the number that m gives, in a table of just the rows that m makes; the bytes lent are no bits
+abbrev one-of : Steps → OneLeft
+one-of m =
     let a = m none in
-    let o = one (a .rows) (a .num) in
-    Bool·beq (o 0) b0 && Bool·beq (o 1) b1 && Bool·beq (o 2) b2
+    one-call 3 (count (a .rows)) (laid (a .rows) (slices [] [] [])) (a .num) (2 ∷ 2 ∷ 2 ∷ [])
 
--- what is found is no one
-abbrev no-one : Steps → Bool
-no-one m = let a = m none in not (value (one (a .rows) (a .num)) (a .rows) (a .num))
+abbrev bytes-are : List ℕ → List ℕ → Bool
+bytes-are [] [] = true
+bytes-are (b ∷ bs) (c ∷ cs) = eqb b c && bytes-are bs cs
+bytes-are [] (c ∷ cs) = false
+bytes-are (b ∷ bs) [] = false
+
+-- a one was found, and the bytes left are its values of x0, x1 and x2
+infix 69 _found_
+abbrev _found_ : OneLeft → List ℕ → Bool
+_found_ o bytes = elim (o .answer) [ One ↦ bytes-are (o .bytes) bytes | NoOne why ↦ false ]
+
+infix 69 _refused_
+abbrev _refused_ : OneLeft → ℕ → Bool
+_refused_ o n = elim (o .answer) [ One ↦ false | NoOne why ↦ eqb why n ]
 
 abbrev cases : List Bool
 cases = (x 0 ⊕ x 0 ⊗ x 1) ⊕ (x 0 ⊗ x 1 ⊕ x 2) is x 0 ⊕ x 2
@@ -77,8 +92,8 @@ cases = (x 0 ⊕ x 0 ⊗ x 1) ⊕ (x 0 ⊗ x 1 ⊕ x 2) is x 0 ⊕ x 2
     ∷ x 0 ⊕ x 1 by lead 0 (x 1) empty is const 0
     ∷ x 0 ⊗ x 1 ⊕ x 0 by lead 1 (const 1) empty is const 0
     ∷ x 0 by empty is x 0
-    ∷ one-of (x 0 ⊗ x 1 ⊕ x 1) false true false
-    ∷ (one-of (const 1) false false false && no-one (const 0))
+    ∷ one-of (x 0 ⊗ x 1 ⊕ x 1) found (0 ∷ 1 ∷ 0 ∷ [])
+    ∷ (one-of (const 1) found (0 ∷ 0 ∷ 0 ∷ []) && one-of (const 0) refused 6)
     ∷ []
 
 abbrev every : List Bool → Bool
@@ -86,5 +101,5 @@ every [] = true
 every (b ∷ bs) = b && every bs
 
 pub proved-cases : every cases ≡ true
-unfolding make sums products normals find next row one put value
+unfolding make sums products normals find next row one put count rows-of column in-range fits sound bytes-of one-call
 proved-cases = refl
