@@ -45,7 +45,8 @@ use Rattle.verdicts.proofs.Endings.{ends-at-0, ends-at-1, ends-full}
 use Rattle.circuit.specs.declared.Judged.{Judged}
 use Rattle.circuit.specs.declared.Judged.the-variants.{Never, Can, RoomOut, Refused}
 use Rattle.circuit.specs.Answers.{answer-of, Answered}
-use Rattle.circuit.specs.Inner.{bytes-at, PatternAsked, OutputAsked, end-at, end-of, PatternIf, EndAsked, NetAsked, JudgeAsked, ReadyAsked}
+use Rattle.patterns.specs.Inner.{bytes-at, PatternAsked}
+use Rattle.circuit.specs.Inner.{OutputAsked, end-at, end-of, PatternIf, EndAsked, NetAsked, JudgeAsked, ReadyAsked}
 
 -- the end, once it is known what was made
 

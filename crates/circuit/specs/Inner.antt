@@ -1,14 +1,11 @@
 -- What the inner functions of the circuit call ask and promise.
 -- Assumes nothing: these are definitions.
-use Prim.Native.Nat.{ℕ, _+_, _/_, _<_, _≤_}
+use Prim.Native.Nat.{ℕ, _/_, _<_, _≤_}
 use mathlib.Core.Path.{_≡_}
 use mathlib.Core.Bool.{Bool, true, false}
-use mathlib.Core.List.{List, map}
+use mathlib.Core.List.{List}
 use lib.Dec.{eqb}
-use lib.ListN.{length, getD}
 use Rattle.steps.specs.One.{one}
-use Rattle.steps.specs.Rows.{Assignment}
-use Rattle.steps.specs.Sound.{Sound}
 use Rattle.steps.specs.Table.{Slices, rows-of}
 use Rattle.table.specs.declared.make.Made.{Made}
 use Rattle.table.specs.declared.make.Made.the-variants.{At, Full}
@@ -20,23 +17,8 @@ use Rattle.aiger.specs.Net.{limits}
 use Rattle.aiger.specs.declared.header.Sizes.{Sizes}
 use Rattle.aiger.specs.Accepted.{Accepted}
 use Rattle.verdicts.specs.Calls.{verdict-0, verdict-1, verdict-2, Left, left}
-use Rattle.verdicts.specs.Patterns.{bytes}
-use Rattle.verdicts.specs.Systems.{ring}
 use Rattle.gates.specs.Inner.{BuildAsked}
-
--- the bytes of the inputs ls at an assignment
-abbrev pub bytes-at : ℕ → Assignment → List ℕ → List ℕ
-bytes-at M a ls = bytes (map (λ l. a (ring M (l / 2))) ls)
-
--- a number in use in a sound table, and as many inputs as the pattern has bytes
-pub record PatternAsked (M c : ℕ) (s : Slices) (k : ℕ) (ins : List ℕ) (I : ℕ) : Type 0 where
-  pub lent : Lent c s
-  pub sound : Sound M (rows-of s c)
-  pub used : k < c + 2
-  pub vars : M ≤ 1024
-  pub long : I ≤ length ins
-  pub positive : (i : ℕ) → i < I → 0 < getD ins i 0 / 2
-  pub low : (i : ℕ) → i < I → getD ins i 0 / 2 ≤ M
+use Rattle.patterns.specs.Inner.{bytes-at, PatternAsked}
 
 -- an empty table, the gates of an accepted net in three slices, and a literal of one of its variables
 pub record OutputAsked (M : ℕ) (s : Slices) (work xs ys zs : List ℕ) (gates l : ℕ) : Type 0 where

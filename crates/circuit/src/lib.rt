@@ -1,9 +1,7 @@
 // The circuit call: a text becomes a net, the net's gates a system in the lent table, and one output is judged by it.
 mod output;
-pub mod pattern;
 
 use crate::output::output;
-use crate::pattern::write_pattern;
 use aiger::header::Sizes;
 use aiger::lines::Lit;
 use aiger::net::NetRead;
@@ -13,6 +11,7 @@ use checks::clear::free_rows;
 use checks::clear::zero_work;
 use nets::for_circuit::number_of;
 use nets::for_circuit::read_net;
+use patterns::write_pattern;
 use table::make::Made;
 ghost use mathlib.Core.Path.{_≡_};
 ghost use lib.ListN.{length, replicate, take};

@@ -22,7 +22,7 @@ use Rattle.verdicts.specs.Systems.{literal-steps}
 use Rattle.verdicts.proofs.Building.{literal-ok}
 use Rattle.gates.specs.Inner.{LiteralAsked}
 use Rattle.circuit.specs.declared.Judged.the-variants.{Never, Can, RoomOut}
-use Rattle.circuit.specs.Inner.{bytes-at, PatternAsked}
+use Rattle.patterns.specs.Inner.{bytes-at, PatternAsked}
 use Rattle.outputs.specs.Inner.{output-from, ending-answer, ending-pattern, FromAsked, Stays, Ended}
 
 -- the answer as it is known after a match

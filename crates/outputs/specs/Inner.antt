@@ -22,7 +22,8 @@ use Rattle.verdicts.specs.Systems.{literal-steps, build}
 use Rattle.verdicts.specs.Verdicts.{verdict-of, room-out}
 use Rattle.circuit.specs.declared.Judged.{Judged}
 use Rattle.circuit.specs.Answers.{answer-of}
-use Rattle.circuit.specs.Inner.{bytes-at, NetAsked}
+use Rattle.circuit.specs.Inner.{NetAsked}
+use Rattle.patterns.specs.Inner.{bytes-at}
 
 -- the first c rows are those of the whole system, which is the number F
 pub record Built (s : Slices) (h : Sizes) (x : NetSlices) (c F : ℕ) : Type 0 where

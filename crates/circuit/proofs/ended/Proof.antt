@@ -4,7 +4,7 @@ use Rattle.circuit.proofs.ended.Statement.{statement}
 use Rattle.circuit.proofs.ended.Tie as tie
 use Rattle.circuit.proofs.ended.Reads as reads
 use Rattle.circuit.proofs.ended.Lts as lts
-use Rattle.circuit.proofs.pattern.write_pattern.Reads as write-pattern-reads
+use Rattle.patterns.proofs.write_pattern.Reads as write-pattern-reads
 use Rattle.checks.proofs.clear.free_rows.Reads as free-rows-reads
 
 enum-known-made : tie.Need-enum-known-made
