@@ -18,8 +18,8 @@ use Rattle.table.specs.declared.index.Found.the-variants.{At}
 use Rattle.table.specs.Inner.{number-of, Some, Finds}
 use Rattle.steps.proofs.Sound.{fits-true, sound-true, sound-part}
 use Rattle.steps.proofs.Table.{rows-of-count, rows-of-next, rows-of-part}
-use Rattle.table.specs.Lent.{room, Lent}
-use Rattle.table.specs.Index.{index-words, Followed, Apart, Indexed, enter, Linkable, Front}
+use Rattle.table.specs.Lent.{room, Lent, Stands}
+use Rattle.table.specs.Index.{index-words, bucket, Followed, Apart, Indexed, enter, Linkable, Front}
 use Rattle.table.specs.Memory.{reach}
 use Rattle.table.specs.Calls.{in-range}
 use Rattle.checks.specs.declared.check.Table.the-variants.{Fine, Unsound}
@@ -82,10 +82,25 @@ module _ (N c : ℕ) (s : Slices) (work₀ : List ℕ) (p : Prepared c s work₀
       pub checking-next : RowNext i s work
       checking-next = record { indexed = k .indexed; there = omega (arith, p .lent .used) }
 
+      pub checking-stands : Stands i s
+      checking-stands = record { in-vars = omega (arith, p .lent .used); in-thens = omega (arith, p .lent .used, p .lent .thens); in-elses = omega (arith, p .lent .used, p .lent .elses) }
+
+      -- the index has as many words as at first
+      module _ (H : ℕ) (z : index-words (room s) (length work₀) ≡ H) where
+        pub checking-words : index-words (room s) (length work) ≡ H
+        checking-words = rw (k .front .same-length) z
+
+        pub checking-linkable : Linkable H i work
+        checking-linkable =
+            rw (rows-of-count s i, checking-words) at (linkable (room s) work (rows-of s i) (p .lent .small) (omega (arith, rows-of-count s i, p .lent .used)) (k .indexed .chains))
+
+        pub checking-bucket : (r : Row) (b : ℕ) → bucket H r ≡ b → 0 < H → b < H
+        checking-bucket r b q u = rw q at (checking-linkable .buckets u r)
+
       -- an unsound row makes the table unsound
-      pub checking-fails : fits N (rows-of s i) (row-at s i) ≡ false → SoundChecked false N c s work
+      not-sound : fits N (rows-of s i) (row-at s i) ≡ false → SoundChecked false N c s work
       unfolding rows-of sound
-      checking-fails f = record { is = go (sound N (rows-of s c)) refl; live = λ z. absurd (let y : _≡_ {A = ℕ} 0 1 = cc in omega arith) }
+      not-sound f = record { is = go (sound N (rows-of s c)) refl; live = λ z. absurd (let y : _≡_ {A = ℕ} 0 1 = cc in omega arith) }
         where
           go : (b : Bool) → sound N (rows-of s c) ≡ b → b ≡ false
           go false e = refl
@@ -94,9 +109,9 @@ module _ (N c : ℕ) (s : Slices) (work₀ : List ℕ) (p : Prepared c s work₀
               let b : sound N (rows-of s (suc i)) ≡ false = rw (k .so-far, f) in
               absurd (let y : _≡_ {A = ℕ} 0 1 = cc in omega arith)
 
-      pub checking-again : (work′ : List ℕ) → fits N (rows-of s i) (row-at s i) ≡ true → enter (index-words (room s) (length work)) i (row-at s i) work ≡ work′ → Checking N c (i + 1) s work₀ work′
+      one-more : (work′ : List ℕ) → fits N (rows-of s i) (row-at s i) ≡ true → enter (index-words (room s) (length work)) i (row-at s i) work ≡ work′ → Checking N c (i + 1) s work₀ work′
       unfolding rows-of sound Apart
-      checking-again work′ f e =
+      one-more work′ f e =
           let small = p .lent .small in
           let free : count (rows-of s i) < room s = omega (arith, rows-of-count s i, p .lent .used) in
           record {
@@ -110,33 +125,32 @@ module _ (N c : ℕ) (s : Slices) (work₀ : List ℕ) (p : Prepared c s work₀
             front = front-trans (k .front) (rw (rows-of-count s i, e) at (enter-front (room s) work (rows-of s i) small free (k .indexed .chains) (row-at s i)));
           }
 
--- the row to be entered
-pub row-linkable : (i H : ℕ) (s : Slices) (work : List ℕ) → RowNext i s work → index-words (room s) (length work) ≡ H → Linkable H i work
-row-linkable i H s work r z =
-    rw (rows-of-count s i, z) at (linkable (room s) work (rows-of s i) (r .indexed .lent .small) (omega (arith, rows-of-count s i, r .there)) (r .indexed .chains))
+      -- the row, which was read as x
+      module _ (x : Row) (e : row-at s i ≡ x) where
+        pub checking-fails : fits N (rows-of s i) x ≡ false → SoundChecked false N c s work
+        checking-fails f = not-sound (ap (fits N (rows-of s i)) e ∙ f)
 
--- a row that was read as x
-module _ (N : ℕ) (R : Rows) (r x : Row) (e : r ≡ x) where
-  pub fits-not : parts-fit N R x ≡ false → fits N R r ≡ false
+        pub checking-again : (H : ℕ) → index-words (room s) (length work₀) ≡ H → (work′ : List ℕ) → fits N (rows-of s i) x ≡ true → enter H i x work ≡ work′ → Checking N c (i + 1) s work₀ work′
+        checking-again H z work′ f q = one-more work′ (ap (fits N (rows-of s i)) e ∙ f) (rw (checking-words H z, e) q)
+
+-- the ways out of the test of a row
+module _ (N : ℕ) (R : Rows) (x : Row) where
+  pub fits-not : parts-fit N R x ≡ false → fits N R x ≡ false
   unfolding fits
-  fits-not q = ap (fits N R) e ∙ ap (λ (b : Bool). b && eqb (find R x) 0) q
+  fits-not q = ap (λ (b : Bool). b && eqb (find R x) 0) q
 
-  pub fits-twice : (f : Found) → Finds f R x → {k : Number} → f ≡ At k → fits N R r ≡ false
+  pub fits-twice : (f : Found) → Finds f R x → {k : Number} → f ≡ At k → fits N R x ≡ false
   unfolding fits
   fits-twice f d {k} q =
       let n : find R x ≡ k .0 = d .is ∙ ap number-of q in
       let p : 0 < k .0 = subst Some q (d .some) in
-      ap (fits N R) e ∙ ap (λ (b : Bool). parts-fit N R x && b) (ne-eqb (find R x) 0 (λ z. omega arith)) ∙ and-false (parts-fit N R x)
+      ap (λ (b : Bool). parts-fit N R x && b) (ne-eqb (find R x) 0 (λ z. omega arith)) ∙ and-false (parts-fit N R x)
 
-  pub fits-all : parts-fit N R x ≡ true → find R x ≡ 0 → fits N R r ≡ true
+  pub fits-all : parts-fit N R x ≡ true → find R x ≡ 0 → fits N R x ≡ true
   unfolding fits
-  fits-all q z = ap (fits N R) e ∙ ap (λ (b : Bool). b && eqb (find R x) 0) q ∙ eq-eqb (find R x) 0 z
+  fits-all q z = ap (λ (b : Bool). b && eqb (find R x) 0) q ∙ eq-eqb (find R x) 0 z
 
--- and entered so
-pub entered-is : (i H H′ : ℕ) (r x : Row) (work : List ℕ) {work′ : List ℕ} → H ≡ H′ → r ≡ x → enter H′ i x work ≡ work′ → enter H i r work ≡ work′
-entered-is i H H′ r x work p q e = rw (p, q) e
-
--- the ways out of the test of a row's parts
+-- and of its parts
 module _ (N : ℕ) (s : Slices) (i v t e : ℕ) where
   pub var-out : N ≤ v → parts-fit N (rows-of s i) (row-of v t e) ≡ false
   var-out h = rw (le-ltb v N h)

@@ -1,6 +1,7 @@
 // For the crates above: the checks that every call on a table makes first.
 use crate::clear::zero_words;
 use table::index::Found;
+use table::index::bucket;
 use table::index::enter;
 use table::index::find;
 use table::index::index_words;
@@ -13,9 +14,9 @@ ghost use Prim.Native.Nat.{_<_};
 ghost use lib.ListN.{length};
 ghost use Rattle.steps.specs.Rows.{row-of};
 ghost use Rattle.steps.specs.Sound.{fits};
-ghost use Rattle.steps.specs.Table.{slices, row-at, rows-of};
+ghost use Rattle.steps.specs.Table.{slices, rows-of};
 ghost use Rattle.table.specs.Lent.{Lent};
-ghost use Rattle.table.specs.Index.{index-words, enter};
+ghost use Rattle.table.specs.Index.{Belongs};
 ghost use Rattle.table.specs.Calls.{in-range};
 ghost use Rattle.checks.specs.Checks.{parts-fit, RowNext, Prepared, SoundChecked, Checked};
 
@@ -69,31 +70,29 @@ fn parts_fit(vs: &[u16], ts: &[u16], es: &[u16], n: u16, i: usize, x: Node) -> b
     x.v.0 < e.v.0
 }
 
-// Whether row i may stand after the i rows before it.
-fn row_fits(vs: &[u16], ts: &[u16], es: &[u16], work: &[u64], n: u16, i: usize) -> bool
+// Whether row i, which is x and belongs in the bucket b of an index of h words, may stand after the i rows before it.
+fn row_fits(
+    vs: &[u16],
+    ts: &[u16],
+    es: &[u16],
+    work: &[u64],
+    n: u16,
+    i: usize,
+    h: usize,
+    b: usize,
+    x: Node,
+) -> bool
     requires { ⌜ RowNext i (slices (now vs) (now ts) (now es)) (now work) ⌝ }
-    ensures { λ r. ⌜ fits n (rows-of (slices (now (vs .entry)) (now (ts .entry)) (now (es .entry))) i)
-        (row-at (slices (now (vs .entry)) (now (ts .entry)) (now (es .entry))) i) ≡ r ⌝ }
+    requires { ⌜ Belongs (length (now vs)) (length (now work)) (row-of (x .v .0) (x .t .0) (x .e .0)) h b ⌝ }
+    ensures { λ r. ⌜ fits n (rows-of (slices (now (vs .entry)) (now (ts .entry)) (now (es .entry))) i) (row-of (x .v .0) (x .t .0) (x .e .0)) ≡ r ⌝ }
 {
-    let x = node_at(vs, ts, es, i);
     if !parts_fit(vs, ts, es, n, i, x) {
         return false;
     }
-    if let Found::At(_) = find(vs, ts, es, work, i, x) {
+    if let Found::At(_) = find(vs, ts, es, work, i, h, b, x) {
         return false;
     }
     true
-}
-
-// Enters row i into the index of the rows before it.
-fn enter_row(vs: &[u16], ts: &[u16], es: &[u16], work: &mut [u64], i: usize)
-    requires { ⌜ RowNext i (slices (now vs) (now ts) (now es)) (now work) ⌝ }
-    ensures { λ _. ⌜ enter (index-words (length (now (vs .entry))) (length (now (work .entry)))) i
-        (row-at (slices (now (vs .entry)) (now (ts .entry)) (now (es .entry))) i) (now (work .entry)) ≡ now (work .exit) ⌝ }
-{
-    let h = index_words(vs.len(), work.len());
-    let x = node_at(vs, ts, es, i);
-    enter(work, h, i, x);
 }
 
 // Whether the rows in use are sound. Where they are, the working slice then begins with their index.
@@ -101,12 +100,15 @@ fn rows_sound(vs: &[u16], ts: &[u16], es: &[u16], work: &mut [u64], n: u16, coun
     requires { ⌜ Prepared count (slices (now vs) (now ts) (now es)) (now work) ⌝ }
     ensures { λ r. ⌜ SoundChecked r n count (slices (now (vs .entry)) (now (ts .entry)) (now (es .entry))) (now (work .exit)) ⌝ }
 {
+    let h = index_words(vs.len(), work.len());
     let mut i = 0;
     while i < count {
-        if !row_fits(vs, ts, es, work, n, i) {
+        let x = node_at(vs, ts, es, i);
+        let b = bucket(h, x);
+        if !row_fits(vs, ts, es, work, n, i, h, b, x) {
             return false;
         }
-        enter_row(vs, ts, es, work, i);
+        enter(work, h, b, i);
         i += 1;
     }
     true

@@ -155,10 +155,6 @@ module _ (rows : ℕ) (work : List ℕ) (R : Rows) (small : rows ≤ 8192) (free
         rw (e, enter-some H (count R) x work (λ z. omega arith))
         (chains-link H R work x (chains q) (spans-bucket here q x) (spans-fits here) (omega (arith, spans-room here q)) (omega arith))
 
--- the bucket that was computed is in the index
-pub enter-bucket : (H b : ℕ) (r : Row) → (H ≡ 0 → ⊥) → bucket H r ≡ b → bucket H r < H → b < H
-enter-bucket H b r z q h = rw q at h
-
 -- the index stands while its words do
 pub chains-same : (H : ℕ) (R : Rows) (work work′ : List ℕ) → count R ≤ H → ((i : ℕ) → i < H → getD work′ i 0 ≡ getD work i 0) → Chains H R work → Chains H R work′
 chains-same H R work work′ h same ch = record {

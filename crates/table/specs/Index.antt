@@ -52,6 +52,11 @@ pub record Indexed (c : ℕ) (s : Slices) (work : List ℕ) : Type 0 where
   pub apart : Apart (rows-of s c)
   pub chains : 0 < index-words (room s) (length work) → Chains (index-words (room s) (length work)) (rows-of s c) work
 
+-- the row r belongs in the bucket b of the index of H words that a table of R rows has in a working slice of L words
+pub record Belongs (R L : ℕ) (r : Row) (H b : ℕ) : Type 0 where
+  pub words : index-words R L ≡ H
+  pub place : bucket H r ≡ b
+
 -- the words with row i linked in as the newest of the bucket b
 unfoldable pub link : ℕ → ℕ → List ℕ → List ℕ
 link b i work =

@@ -5,10 +5,10 @@ use crate::rows::is_row;
 ghost use mathlib.Core.Path.{_≡_};
 ghost use Prim.Native.Nat.{_<_, _/_, _%_};
 ghost use lib.ListN.{length, getD};
-ghost use Rattle.steps.specs.Rows.{row-of};
+ghost use Rattle.steps.specs.Rows.{Row as Triple, row-of};
 ghost use Rattle.steps.specs.Table.{slices, rows-of};
 ghost use Rattle.table.specs.Lent.{Lent};
-ghost use Rattle.table.specs.Index.{index-size, index-words, bucket, Indexed, Linkable, enter};
+ghost use Rattle.table.specs.Index.{index-size, index-words, bucket, Indexed, Belongs, Linkable, enter};
 ghost use Rattle.table.specs.Inner.{Finds};
 
 // What a search finds: a row's number.
@@ -39,7 +39,7 @@ pub fn index_words(rows: usize, len: usize) -> usize
 }
 
 // The bucket of a row in an index of h words.
-fn bucket(h: usize, x: Node) -> usize
+pub fn bucket(h: usize, x: Node) -> usize
     ensures { λ r. ⌜ bucket h (row-of (x .v .0) (x .t .0) (x .e .0)) ≡ r ⌝ }
 {
     let hash = (x.v.0 as usize * 40503 + x.t.0 as usize * 48271 + x.e.0 as usize * 69621) / 16;
@@ -83,16 +83,24 @@ fn search(vs: &[u16], ts: &[u16], es: &[u16], count: usize, x: Node) -> Found
     Found::Nothing
 }
 
-// The row x among the count rows in use, by their index if there is one.
-pub fn find(vs: &[u16], ts: &[u16], es: &[u16], work: &[u64], count: usize, x: Node) -> Found
+// The row x among the count rows in use: in its bucket b of their index of h words, if there is one.
+pub fn find(
+    vs: &[u16],
+    ts: &[u16],
+    es: &[u16],
+    work: &[u64],
+    count: usize,
+    h: usize,
+    b: usize,
+    x: Node,
+) -> Found
     requires { ⌜ Indexed count (slices (now vs) (now ts) (now es)) (now work) ⌝ }
+    requires { ⌜ Belongs (length (now vs)) (length (now work)) (row-of (x .v .0) (x .t .0) (x .e .0)) h b ⌝ }
     ensures { λ r. ⌜ Finds r (rows-of (slices (now (vs .entry)) (now (ts .entry)) (now (es .entry))) count) (row-of (x .v .0) (x .t .0) (x .e .0)) ⌝ }
 {
-    let h = index_words(vs.len(), work.len());
     if h == 0 {
         return search(vs, ts, es, count, x);
     }
-    let b = bucket(h, x);
     let mut k = head(work, b);
     while 0 < k {
         let i = k - 2;
@@ -104,15 +112,15 @@ pub fn find(vs: &[u16], ts: &[u16], es: &[u16], work: &[u64], count: usize, x: N
     Found::Nothing
 }
 
-// Enters row i, which is x, into the index of h words.
-pub fn enter(work: &mut [u64], h: usize, i: usize, x: Node)
+// Enters row i into its bucket b of the index of h words.
+pub fn enter(work: &mut [u64], h: usize, b: usize, i: usize)
     requires { ⌜ Linkable h i (now work) ⌝ }
-    ensures { λ _. ⌜ enter h i (row-of (x .v .0) (x .t .0) (x .e .0)) (now (work .entry)) ≡ now (work .exit) ⌝ }
+    requires { ⌜ (0 < h → b < h) ⌝ }
+    ensures { λ _. ⌜ ((r : Triple) → bucket h r ≡ b → enter h i r (now (work .entry)) ≡ now (work .exit)) ⌝ }
 {
     if h == 0 {
         return;
     }
-    let b = bucket(h, x);
     let newest = work[b] / 65536;
     work[i] = work[i] / 65536 * 65536 + newest;
     work[b] = (i as u64 + 2) * 65536 + work[b] % 65536;

@@ -1,6 +1,7 @@
 // For the crates above: the written step Make.
 use crate::Row;
 use crate::index::Found;
+use crate::index::bucket;
 use crate::index::enter;
 use crate::index::find;
 use crate::index::index_words;
@@ -10,7 +11,8 @@ ghost use Rattle.steps.specs.Rows.{row-of, find};
 ghost use Rattle.steps.specs.Steps.{make, append};
 ghost use Rattle.steps.specs.Table.{slices, rows-of};
 ghost use Rattle.table.specs.Lent.{Lent};
-ghost use Rattle.table.specs.Index.{Indexed};
+ghost use lib.ListN.{length};
+ghost use Rattle.table.specs.Index.{Indexed, Belongs};
 ghost use Rattle.table.specs.Inner.{Taken, Entered};
 
 // What steps make: a number, with the new count of rows in use; or room has run out.
@@ -34,16 +36,19 @@ fn append(vs: &mut [u16], ts: &mut [u16], es: &mut [u16], count: usize, x: Node)
     Made::At(Row((count + 2) as u16), count + 1)
 }
 
-// The row x, which is like none in use, behind them and in their index.
+// The row x, which is like none in use, behind them and in its bucket b of their index of h words.
 fn add(
     vs: &mut [u16],
     ts: &mut [u16],
     es: &mut [u16],
     work: &mut [u64],
     count: usize,
+    h: usize,
+    b: usize,
     x: Node,
 ) -> Made
     requires { ⌜ Indexed count (slices (now vs) (now ts) (now es)) (now work) ⌝ }
+    requires { ⌜ Belongs (length (now vs)) (length (now work)) (row-of (x .v .0) (x .t .0) (x .e .0)) h b ⌝ }
     requires { ⌜ find (rows-of (slices (now vs) (now ts) (now es)) count) (row-of (x .v .0) (x .t .0) (x .e .0)) ≡ 0 ⌝ }
     ensures { λ r. ⌜ Entered (append (row-of (x .v .0) (x .t .0) (x .e .0))) r count (slices (now (vs .entry)) (now (ts .entry)) (now (es .entry)))
         (slices (now (vs .exit)) (now (ts .exit)) (now (es .exit))) (now (work .entry)) (now (work .exit)) ⌝ }
@@ -51,8 +56,7 @@ fn add(
     if vs.len() <= count {
         return Made::Full;
     }
-    let h = index_words(vs.len(), work.len());
-    enter(work, h, count, x);
+    enter(work, h, b, count);
     append(vs, ts, es, count, x)
 }
 
@@ -73,8 +77,10 @@ pub fn make(
         let e = x.e;
         return Made::At(e, count);
     }
-    let Found::At(k) = find(vs, ts, es, work, count, x) else {
-        return add(vs, ts, es, work, count, x);
+    let h = index_words(vs.len(), work.len());
+    let b = bucket(h, x);
+    let Found::At(k) = find(vs, ts, es, work, count, h, b, x) else {
+        return add(vs, ts, es, work, count, h, b, x);
     };
     Made::At(k, count)
 }
