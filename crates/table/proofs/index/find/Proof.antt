@@ -1,6 +1,5 @@
 use mathlib.Core.Path.{_∙_}
 use native.Mathlib.Omega.{arith}
-use borrow.Author.Needs.{needs}
 use Rattle.steps.specs.Rows.{row-of}
 use Rattle.steps.specs.Table.{slices, rows-of}
 use Rattle.table.proofs.Walks.{Walk, walk-inner, walk-used, walk-found, walk-less, walk-on, walk-end, find-fits, find-room, find-bucket, find-follows, find-start}

@@ -1,4 +1,3 @@
-use Rattle.steps.specs.Rows.{row-of}
 use Rattle.table.proofs.Enters.{add-full, add-linkable, add-bucket, add-room}
 use borrow.Author.Needs.{needs}
 use borrow.Author.Needs.{needs}
