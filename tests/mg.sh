@@ -24,13 +24,17 @@ variable_of() {
 }
 mixed_up() { ! variable_of mg_row && ! variable_of uint16_t; }
 
-# against KIND..: compares the console with the second program, and adds the count
-against() {
+# compare KIND..: compares the console with the second program; what it says is kept under the KIND
+compare() {
+    echo "mg: $*" >"$room/$1"
+    tests/compare "$room/console" "$@" >>"$room/$1" 2>&1 || echo "mg: the comparison failed" >>"$room/$1"
+}
+
+# counted KIND: shows what was said, and adds the count
+counted() {
     local said
-    echo "mg: $*"
-    tests/compare "$room/console" "$@" >"$room/said" 2>&1 || echo "mg: the comparison failed"
-    cat "$room/said"
-    said=$(grep -E '^[1-9][0-9]* passed, [0-9]+ failed$' "$room/said" || echo "0 passed, 1 failed")
+    cat "$room/$1"
+    said=$(grep -E '^[1-9][0-9]* passed, [0-9]+ failed$' "$room/$1" || echo "0 passed, 1 failed")
     passed=$((passed + ${said%% passed*}))
     said=${said#*, }
     failed=$((failed + ${said%% failed*}))
@@ -59,13 +63,17 @@ caught() {
 what "a refusal 7 given as 0 is found" caught scripts '-> 7 ' '-> 0 '
 what "a verdict 2 given as 0 is found" caught texts 'verdict=2' 'verdict=0'
 
-against paper
+compare paper
+counted paper
 fresh=$(($(date +%s) * 1000))
 if [ "${1:-}" = --long ]; then portions=40; else portions=2; fi
 for ((at = 0; at < portions; at++)); do
     if [ "$at" -eq 0 ]; then seed=1; else seed=$((fresh + at)); fi
-    against scripts "$seed" 5000
-    against texts "$seed" 5000
+    compare scripts "$seed" 5000 &
+    compare texts "$seed" 5000
+    wait
+    counted scripts
+    counted texts
 done
 
 echo "$passed passed, $failed failed"

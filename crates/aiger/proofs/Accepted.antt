@@ -7,7 +7,7 @@ use mathlib.Core.List.{List, [], _∷_, _++_, append-nil}
 use native.Mathlib.Omega.{arith}
 use native.Mathlib.Nat.{div-add-mod'}
 use lib.Dec.{eqb, leb, ltb}
-use lib.ListN.{length, length-append}
+use lib.ListN.{length, getD, length-append}
 use lib.Seq.{append-snoc}
 use borrow.Author.Tests.{eqb-true, leb-true, ltb-true}
 use Rattle.aiger.specs.Form.{if_then_else_, number, line, Gate, gate, Header, header}
@@ -202,3 +202,10 @@ ascending M ls p gs (g ∷ more) e c =
 
 pub gates-ascending : {net : Net} → Accepted net → Ascending (net .M) 0 (net .gates)
 gates-ascending {net} a = ascending (net .M) (net .inputs) 0 [] (net .gates) refl (a .gates-chain)
+
+-- the inputs are literals of ring variables
+pub inputs-at : (M : ℕ) (ls more : List ℕ) → News M ls more → (i : ℕ) → i < length more → (2 ≤ getD more i 0) × (getD more i 0 ≤ 2 * M + 1)
+unfolding News
+inputs-at M ls [] n i h = absurd (omega arith)
+inputs-at M ls (l ∷ more) n zero h = (n .0 .low, n .0 .high)
+inputs-at M ls (l ∷ more) n (suc i) h = inputs-at M (ls ++ l ∷ []) more (n .1) i (omega arith)

@@ -1,8 +1,8 @@
 -- The verdict of the call, from what was made to the refusals before it.
-use Prim.Native.Nat.{ℕ, zero, suc, _+_, _*_, _<_, _≤_}
+use Prim.Native.Nat.{ℕ, _+_, _*_, _<_, _≤_}
 use mathlib.Core.Path.{_≡_, refl, sym, ap, subst, _∙_}
 use mathlib.Core.Bool.{Bool, true, false, _&&_}
-use mathlib.Core.List.{List, [], _∷_, _++_}
+use mathlib.Core.List.{List, []}
 use native.Mathlib.Omega.{arith}
 use lib.Dec.{eqb, leb}
 use lib.ListN.{length, getD, take, drop}
@@ -16,7 +16,7 @@ use Rattle.checks.specs.declared.check.Table.{Table}
 use Rattle.checks.specs.declared.check.Table.the-variants.{Fine, OutOfRange, Unsound}
 use Rattle.table.specs.declared.make.Made.{Made}
 use Rattle.table.specs.declared.make.Made.the-variants.{At, Full}
-use Rattle.table.specs.Calls.{in-range, cleared}
+use Rattle.table.specs.Calls.{in-range}
 use Rattle.checks.specs.Checks.{Checked}
 use Rattle.table.specs.Lent.{room, Lent}
 use Rattle.steps.specs.Rows.{none, next}
@@ -31,40 +31,22 @@ use Rattle.aiger.specs.declared.net.NetRead.{NetRead}
 use Rattle.aiger.specs.declared.net.NetRead.the-variants.{Whole, Unread}
 use Rattle.aiger.specs.declared.net.Refusal.{Refusal}
 use Rattle.aiger.specs.declared.header.Sizes.{Sizes}
-use Rattle.aiger.specs.Accepted.{News}
-use Rattle.aiger.proofs.Accepted.{accepted, gates-ascending}
+use Rattle.aiger.proofs.Accepted.{accepted, inputs-at, gates-ascending}
 use Rattle.aiger.proofs.WholeNet.{Within, within, net-whole, net-unread}
 use Rattle.verdicts.proofs.Building.{reduced}
 use Rattle.verdicts.proofs.Inputs.{output-low}
 use Rattle.verdicts.proofs.Outcomes.{call-lengths, call-read, judge-no-output, judge-no-pattern, judge-passes}
 use Rattle.steps.proofs.Bools.{both-true}
-use Rattle.verdicts.specs.Calls.{left, verdict-1, verdict-2, refusal, lengths-fine, end-with, judge, circuit-call}
+use Rattle.verdicts.specs.Calls.{left, refusal, lengths-fine, end-with, judge, circuit-call}
 use Rattle.verdicts.specs.Systems.{output-steps}
 use Rattle.verdicts.specs.Verdicts.{verdict-of}
 use Rattle.verdicts.proofs.Endings.{ends-at-0, ends-at-1, ends-full}
-use Rattle.circuit.specs.declared.Judged.{Judged}
-use Rattle.circuit.specs.declared.Judged.the-variants.{Never, Can, RoomOut, Refused}
-use Rattle.circuit.specs.Answers.{answer-of, Answered}
-use Rattle.patterns.specs.Inner.{bytes-at, PatternAsked}
-use Rattle.circuit.specs.Inner.{OutputAsked, end-at, end-of, PatternIf, EndAsked, NetAsked, JudgeAsked, ReadyAsked}
-
--- the end, once it is known what was made
-
-module _ (M : ℕ) (ls : List ℕ) (s : Slices) (p : List ℕ) {r : Made} where
-  pub ends-without-room : {s′ : Slices} → r ≡ Full → s′ ≡ cleared 0 s → Answered (end-of r M ls s p) RoomOut s′ p
-  ends-without-room q e = record { is = ap (λ (x : Made). end-of x M ls s p) q ∙ ap (λ (t : Slices). left verdict-2 t p) (sym e) }
-
-  module _ {k : Row} {c : ℕ} (q : r ≡ At k c) where
-    pub ends-never : k .0 ≡ 0 → Answered (end-of r M ls s p) (Never c) s p
-    ends-never z = record { is = ap (λ (x : Made). end-of x M ls s p) q ∙ ap (λ (b : Bool). end-at b c (bytes-at M (one (rows-of s c) (k .0)) ls) s p) (eq-eqb (k .0) 0 z) }
-
-    pub ends-can : {p′ : List ℕ} → (k .0 ≡ 0 → ⊥) → p′ ≡ bytes-at M (one (rows-of s c) (k .0)) ls → Answered (end-of r M ls s p) (Can c) s p′
-    ends-can z e = record {
-      is = ap (λ (x : Made). end-of x M ls s p) q ∙ ap (λ (b : Bool). end-at b c (bytes-at M (one (rows-of s c) (k .0)) ls) s p) (ne-eqb (k .0) 0 z) ∙ ap (left (verdict-1 c) s) (sym e);
-    }
-
-pub pattern-asks : {r : Made} {M : ℕ} {s : Slices} {ins : List ℕ} {I : ℕ} {k : Row} {c : ℕ} → EndAsked r M s ins I → r ≡ At k c → PatternAsked M c s (k .0) ins I
-pattern-asks {M = M} {s} {ins} {I} a q = subst (λ (x : Made). PatternIf x M s ins I) q (a .pattern)
+use Rattle.endings.specs.declared.Judged.{Judged}
+use Rattle.endings.specs.declared.Judged.the-variants.{Refused}
+use Rattle.endings.specs.Answers.{answer-of, Answered}
+use Rattle.endings.specs.Inner.{bytes-at, end-at, end-of, PatternIf, EndAsked}
+use Rattle.gates.specs.Inner.{NetAsked}
+use Rattle.circuit.specs.Inner.{OutputAsked, JudgeAsked, ReadyAsked}
 
 -- the lengths of the three slices
 
@@ -83,13 +65,6 @@ module _ (s : Slices) where
     elses-tell h = rw (le-leb (length (s .vars)) 8192 few, eq-eqb (length (s .thens)) (length (s .vars)) h)
 
 -- an accepted net in slices
-
--- the inputs are literals of ring variables
-pub inputs-at : (M : ℕ) (ls more : List ℕ) → News M ls more → (i : ℕ) → i < length more → (2 ≤ getD more i 0) × (getD more i 0 ≤ 2 * M + 1)
-unfolding News
-inputs-at M ls [] n i h = absurd (omega arith)
-inputs-at M ls (l ∷ more) n zero h = (n .0 .low, n .0 .high)
-inputs-at M ls (l ∷ more) n (suc i) h = inputs-at M (ls ++ l ∷ []) more (n .1) i (omega arith)
 
 module _ (s : Slices) (work : List ℕ) (h : Sizes) (x : NetSlices) (o I : ℕ) (a : ReadyAsked s work h x o I) where
   abbrev net : Net

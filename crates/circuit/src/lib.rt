@@ -7,11 +7,11 @@ use aiger::lines::Lit;
 use aiger::net::NetRead;
 use checks::check::Table;
 use checks::check::check;
-use checks::clear::free_rows;
 use checks::clear::zero_work;
+use endings::Judged;
+use endings::ended;
 use nets::for_circuit::number_of;
 use nets::for_circuit::read_net;
-use patterns::write_pattern;
 use table::make::Made;
 ghost use mathlib.Core.Path.{_≡_};
 ghost use lib.ListN.{length, replicate, take};
@@ -19,16 +19,9 @@ ghost use Rattle.steps.specs.Table.{slices};
 ghost use Rattle.aiger.specs.Answers as net;
 ghost use Rattle.verdicts.specs.Calls.{lengths-fine, end-with, judge, circuit-call};
 ghost use Rattle.verdicts.specs.Verdicts.{verdict-of};
-ghost use Rattle.circuit.specs.Answers.{Answered};
-ghost use Rattle.circuit.specs.Inner.{end-of, EndAsked, ReadyAsked, JudgeAsked, NetAsked};
-
-// What the circuit call answers: verdict 0 (the output is never 1) or 1 (it can be), with the count of rows made; verdict 2, room ran out; or a refusal's number.
-pub enum Judged {
-    Never(usize),
-    Can(usize),
-    RoomOut,
-    Refused(u16),
-}
+ghost use Rattle.endings.specs.Answers.{Answered};
+ghost use Rattle.gates.specs.Inner.{NetAsked};
+ghost use Rattle.circuit.specs.Inner.{ReadyAsked, JudgeAsked};
 
 fn lengths_fine(vs: &[u16], ts: &[u16], es: &[u16]) -> bool
     ensures { λ r. ⌜ lengths-fine (slices (now (vs .entry)) (now (ts .entry)) (now (es .entry))) ≡ r ⌝ }
@@ -40,32 +33,6 @@ fn lengths_fine(vs: &[u16], ts: &[u16], es: &[u16]) -> bool
         return false;
     }
     es.len() == vs.len()
-}
-
-// How the call ends after what was made: a pattern only for verdict 1, and zeros where room has run out.
-fn ended(
-    vs: &mut [u16],
-    ts: &mut [u16],
-    es: &mut [u16],
-    n: u16,
-    made: Made,
-    ins: &[u16],
-    pattern: &mut [u8],
-) -> Judged
-    requires { ⌜ EndAsked made n (slices (now vs) (now ts) (now es)) (now ins) (length (now pattern)) ⌝ }
-    ensures { λ r. ⌜ Answered (end-of made n (take (length (now (pattern .entry))) (now (ins .entry)))
-        (slices (now (vs .entry)) (now (ts .entry)) (now (es .entry))) (now (pattern .entry))) r
-        (slices (now (vs .exit)) (now (ts .exit)) (now (es .exit))) (now (pattern .exit)) ⌝ }
-{
-    let Made::At(k, c) = made else {
-        free_rows(vs, ts, es, 0);
-        return Judged::RoomOut;
-    };
-    if k.0 == 0 {
-        return Judged::Never(c);
-    }
-    write_pattern(vs, ts, es, c, n, k, ins, pattern);
-    Judged::Can(c)
 }
 
 fn verdict_ready(

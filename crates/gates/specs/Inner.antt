@@ -2,16 +2,20 @@
 -- Assumes nothing: these are definitions.
 use Prim.Native.Nat.{ℕ, _+_, _/_, _<_, _≤_}
 use mathlib.Core.Path.{_≡_}
+use mathlib.Core.Bool.{true}
 use mathlib.Core.List.{List}
 use lib.ListN.{length}
 use Rattle.steps.specs.Rows.{root}
 use Rattle.steps.specs.Steps.{Steps, _>>=_, product}
 use Rattle.steps.specs.System.{equation}
 use Rattle.steps.specs.Table.{Slices, rows-of}
+use Rattle.table.specs.Lent.{Lent}
 use Rattle.table.specs.Memory.{Live}
-use Rattle.aiger.specs.Answers.{gatesOf}
+use Rattle.aiger.specs.Answers.{Slices as NetSlices, Lent as NetLent, gatesOf, sizesOf, netIn}
 use Rattle.aiger.specs.Form.{Gate}
-use Rattle.aiger.specs.Accepted.{Ascending}
+use Rattle.aiger.specs.Net.{limits}
+use Rattle.aiger.specs.declared.header.Sizes.{Sizes}
+use Rattle.aiger.specs.Accepted.{Accepted, Ascending}
 use Rattle.verdicts.specs.Systems.{ring}
 
 -- "their product, then the equation is added", of the gate of left l, where F is the system before
@@ -58,3 +62,10 @@ pub record BuildAsked (N : ℕ) (s : Slices) (work xs ys zs : List ℕ) (gates :
   pub room0 : gates ≤ length ys
   pub room1 : gates ≤ length zs
   pub order : Ascending N 0 (gatesOf gates xs ys zs)
+
+-- a lent table, and an accepted net in slices
+pub record NetAsked (s : Slices) (h : Sizes) (x : NetSlices) : Type 0 where
+  pub lent : Lent 0 s
+  pub slices : NetLent x
+  pub small : limits (sizesOf h) ≡ true
+  pub net : Accepted (netIn h x)

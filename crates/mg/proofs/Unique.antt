@@ -10,9 +10,9 @@ use Rattle.numbers.specs.Calls.{variable-call, value-call, one-call, OneLeft, o
 use Rattle.sums.specs.Calls.{Does}
 use Rattle.aiger.specs.Answers.{textCall}
 use Rattle.verdicts.specs.Calls.{Left as Circuit-left, left as circuit-left, Answer as Verdict, verdict-0, verdict-1, verdict-2, refusal, circuit-call}
-use Rattle.circuit.specs.Answers.{answer-of, Answered}
-use Rattle.circuit.specs.declared.Judged.{Judged}
-use Rattle.circuit.specs.declared.Judged.the-variants.{Never, Can, RoomOut, Refused}
+use Rattle.endings.specs.Answers.{answer-of, Answered}
+use Rattle.endings.specs.declared.Judged.{Judged}
+use Rattle.endings.specs.declared.Judged.the-variants.{Never, Can, RoomOut, Refused}
 use Rattle.shown.specs.Seen.{Seen, seen, Shows, show-made, show-value, show-one, show-verdict, show-counts}
 
 -- answers that coincide are shown alike

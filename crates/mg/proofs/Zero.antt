@@ -32,9 +32,9 @@ use Rattle.aiger.specs.declared.Answer.{Answer as Text-answer}
 use Rattle.aiger.specs.declared.Answer.the-variants.{Counted, Refused as Text-refused}
 use Rattle.verdicts.specs.Calls.{refusal, Left as Circuit-left, refuse as refuse-circuit, lengths-fine, end-with, judge-read, circuit-call}
 use Rattle.verdicts.specs.Verdicts.{Verdict, never, can, room-out, verdict-of}
-use Rattle.circuit.specs.Answers.{answer-of, Answered as Circuit-answered}
-use Rattle.circuit.specs.declared.Judged.{Judged}
-use Rattle.circuit.specs.declared.Judged.the-variants.{Never, Can, RoomOut, Refused as Circuit-refused}
+use Rattle.endings.specs.Answers.{answer-of, Answered as Circuit-answered}
+use Rattle.endings.specs.declared.Judged.{Judged}
+use Rattle.endings.specs.declared.Judged.the-variants.{Never, Can, RoomOut, Refused as Circuit-refused}
 use Rattle.shown.specs.Seen.{Seen, seen, Shows, show-made, show-value, show-one, show-verdict, show-counts}
 
 -- of outcomes D, of which some refuse with a number: d refuses with none that is 0

@@ -12,7 +12,7 @@ ghost use Rattle.products.specs.Calls.{product-call};
 ghost use Rattle.normal.specs.Calls.{equation-call, Adds, normal-call, Reduced};
 ghost use Rattle.aiger.specs.Answers.{textCall};
 ghost use Rattle.verdicts.specs.Calls.{circuit-call};
-ghost use Rattle.circuit.specs.Answers as judged;
+ghost use Rattle.endings.specs.Answers as judged;
 ghost use Rattle.shown.specs.Seen.{Shows, show-made, show-value, show-one, show-verdict, show-counts};
 
 // The variable x_v.

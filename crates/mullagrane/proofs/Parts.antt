@@ -15,7 +15,7 @@ use Rattle.aiger.specs.declared.net.NetRead.{NetRead}
 use Rattle.aiger.specs.declared.net.NetRead.the-variants.{Whole}
 use Rattle.aiger.proofs.Accepted.{accepted}
 use Rattle.aiger.proofs.WholeNet.{within, net-whole}
-use Rattle.circuit.specs.Inner.{NetAsked}
+use Rattle.gates.specs.Inner.{NetAsked}
 use Rattle.table.specs.declared.make.Made.{Made}
 use Rattle.outputs.specs.Inner.{Builds}
 use Rattle.printing.specs.Inner.{Asked, Prints}

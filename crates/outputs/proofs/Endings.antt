@@ -21,8 +21,8 @@ use Rattle.verdicts.specs.Calls.{verdict-0, verdict-1}
 use Rattle.verdicts.specs.Systems.{literal-steps}
 use Rattle.verdicts.proofs.Building.{literal-ok}
 use Rattle.gates.specs.Inner.{LiteralAsked}
-use Rattle.circuit.specs.declared.Judged.the-variants.{Never, Can, RoomOut}
-use Rattle.patterns.specs.Inner.{bytes-at, PatternAsked}
+use Rattle.endings.specs.declared.Judged.the-variants.{Never, Can, RoomOut}
+use Rattle.endings.specs.Inner.{bytes-at, PatternAsked}
 use Rattle.outputs.specs.Inner.{output-from, ending-answer, ending-pattern, FromAsked, Stays, Ended}
 
 -- the answer as it is known after a match

@@ -29,7 +29,7 @@ use Rattle.leads.specs.Inner.{System}
 use Rattle.aiger.specs.Answers.{Slices as NetSlices, gatesOf, sizesOf, netIn}
 use Rattle.aiger.specs.Net.{Net}
 use Rattle.aiger.specs.declared.header.Sizes.{Sizes}
-use Rattle.aiger.proofs.Accepted.{gates-ascending}
+use Rattle.aiger.proofs.Accepted.{inputs-at, gates-ascending}
 use Rattle.aiger.proofs.WholeNet.{Within, within as within-limits}
 use Rattle.verdicts.specs.Calls.{end-with}
 use Rattle.verdicts.specs.Systems.{build, output-steps}
@@ -37,9 +37,8 @@ use Rattle.verdicts.specs.Verdicts.{judged, verdict-of, output-rows, room-out}
 use Rattle.verdicts.proofs.Building.{whole-system, keeps-reduce}
 use Rattle.verdicts.proofs.Inputs.{output-low}
 use Rattle.gates.specs.Inner.{BuildAsked}
-use Rattle.circuit.specs.declared.Judged.{Judged}
-use Rattle.circuit.specs.Inner.{NetAsked}
-use Rattle.circuit.proofs.Verdicts.{inputs-at}
+use Rattle.endings.specs.declared.Judged.{Judged}
+use Rattle.gates.specs.Inner.{NetAsked}
 use Rattle.outputs.specs.Inner.{Built, Builds, output-from, ending-answer, ending-pattern, FromAsked, Stays, Ended, OutputOf, JudgedAs}
 
 -- the check finds nothing in a sound table of the right lengths

@@ -20,10 +20,10 @@ use Rattle.aiger.specs.declared.header.Sizes.{Sizes}
 use Rattle.verdicts.specs.Calls.{Answer, verdict-0, verdict-1, verdict-2, end-with}
 use Rattle.verdicts.specs.Systems.{literal-steps, build}
 use Rattle.verdicts.specs.Verdicts.{verdict-of, room-out}
-use Rattle.circuit.specs.declared.Judged.{Judged}
-use Rattle.circuit.specs.Answers.{answer-of}
-use Rattle.circuit.specs.Inner.{NetAsked}
-use Rattle.patterns.specs.Inner.{bytes-at}
+use Rattle.endings.specs.declared.Judged.{Judged}
+use Rattle.endings.specs.Answers.{answer-of}
+use Rattle.gates.specs.Inner.{NetAsked}
+use Rattle.endings.specs.Inner.{bytes-at}
 
 -- the first c rows are those of the whole system, which is the number F
 pub record Built (s : Slices) (h : Sizes) (x : NetSlices) (c F : ℕ) : Type 0 where

@@ -4,10 +4,10 @@ use aiger::header::Sizes;
 use aiger::lines::Lit;
 use checks::check::Table;
 use checks::check::check;
-use circuit::Judged;
+use endings::Judged;
+use endings::pattern::write_pattern;
 use gates::system::build;
 use gates::system::literal;
-use patterns::write_pattern;
 use reduction::reduce;
 use table::Row;
 use table::make::Made;
@@ -15,7 +15,7 @@ ghost use lib.ListN.{length, take};
 ghost use Rattle.steps.specs.Table.{slices};
 ghost use Rattle.table.specs.Memory.{Live};
 ghost use Rattle.aiger.specs.Answers as net;
-ghost use Rattle.circuit.specs.Inner.{NetAsked};
+ghost use Rattle.gates.specs.Inner.{NetAsked};
 ghost use Rattle.outputs.specs.Inner.{Builds, output-from, FromAsked, Ended, OutputOf, JudgedAs};
 
 fn system_ready(

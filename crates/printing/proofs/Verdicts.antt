@@ -12,8 +12,8 @@ use Rattle.aiger.specs.declared.header.Sizes.{Sizes}
 use Rattle.aiger.specs.declared.net.Refusal.{Refusal}
 use Rattle.verdicts.specs.Calls.{Answer, verdict-2, end-with}
 use Rattle.verdicts.specs.Verdicts.{Verdict, verdict-of}
-use Rattle.circuit.specs.declared.Judged.{Judged}
-use Rattle.circuit.specs.Answers.{answer-of}
+use Rattle.endings.specs.declared.Judged.{Judged}
+use Rattle.endings.specs.Answers.{answer-of}
 use Rattle.outputs.specs.Inner.{Built, BuiltIf, OutputOf, JudgedAs}
 use Rattle.outputs.proofs.Judging.{built-stays}
 use Rattle.printing.specs.Text.{block, printed, refused}

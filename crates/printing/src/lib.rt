@@ -5,7 +5,7 @@ use crate::line::block;
 use crate::line::refused;
 use aiger::header::Sizes;
 use aiger::net::Refusal;
-use circuit::Judged;
+use endings::Judged;
 use nets::for_circuit::number_of;
 use outputs::judge;
 use table::make::Made;

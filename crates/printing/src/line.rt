@@ -1,11 +1,11 @@
 // Bytes put into a line, one behind the other. Each function tells where they end.
-use circuit::Judged;
+use endings::Judged;
 ghost use Prim.Native.Nat.{_+_, _<_, _≤_};
 ghost use mathlib.Core.Path.{_≡_};
 ghost use mathlib.Core.List.{[], _∷_, _++_, map};
 ghost use lib.ListN.{length};
 ghost use Rattle.verdicts.specs.Calls.{verdict-1};
-ghost use Rattle.circuit.specs.Answers.{answer-of};
+ghost use Rattle.endings.specs.Answers.{answer-of};
 ghost use Rattle.printing.specs.Text as text;
 ghost use Rattle.printing.specs.Inner.{Put};
 

@@ -11,8 +11,8 @@ use Rattle.numbers.specs.declared.Sought.{Sought}
 use Rattle.numbers.specs.declared.Sought.the-variants.{One, NoOne}
 use Rattle.aiger.specs.declared.Answer.{Answer as Text-answer}
 use Rattle.aiger.specs.declared.Answer.the-variants.{Counted, Refused as Text-refused}
-use Rattle.circuit.specs.declared.Judged.{Judged}
-use Rattle.circuit.specs.declared.Judged.the-variants.{Never, Can, RoomOut, Refused as Circuit-refused}
+use Rattle.endings.specs.declared.Judged.{Judged}
+use Rattle.endings.specs.declared.Judged.the-variants.{Never, Can, RoomOut, Refused as Circuit-refused}
 
 pub record Seen (A : Type 0) : Type 0 where
   pub returned : ℕ

@@ -1,5 +1,5 @@
 // For the calls from C: what C sees of an answer, 0 with the out-parameters written, or the refusal's number with the out-parameters as they were.
-use circuit::Judged;
+use endings::Judged;
 use numbers::Sought;
 use numbers::Valued;
 use table::Answer;

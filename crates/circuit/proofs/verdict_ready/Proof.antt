@@ -5,7 +5,7 @@ use Rattle.circuit.proofs.verdict_ready.Statement.{statement}
 use Rattle.circuit.proofs.verdict_ready.Tie as tie
 use Rattle.circuit.proofs.verdict_ready.Reads as reads
 use Rattle.circuit.proofs.verdict_ready.Lts as lts
-use Rattle.circuit.proofs.ended.Reads as ended-reads
+use Rattle.endings.proofs.ended.Reads as ended-reads
 use Rattle.circuit.proofs.output.output.Reads as output-reads
 
 mul-t16 : tie.Need-mul-t16

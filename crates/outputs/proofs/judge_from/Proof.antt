@@ -7,7 +7,7 @@ use Rattle.outputs.proofs.judge_from.Statement.{statement}
 use Rattle.outputs.proofs.judge_from.Tie as tie
 use Rattle.outputs.proofs.judge_from.Reads as reads
 use Rattle.outputs.proofs.judge_from.Lts as lts
-use Rattle.patterns.proofs.write_pattern.Reads as write-pattern-reads
+use Rattle.endings.proofs.pattern.write_pattern.Reads as write-pattern-reads
 use Rattle.gates.proofs.system.literal.Reads as literal-reads
 use Rattle.reduction.proofs.reduce.Reads as reduce-reads
 

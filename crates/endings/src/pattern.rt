@@ -7,7 +7,7 @@ ghost use mathlib.Core.Path.{_≡_};
 ghost use lib.ListN.{length, take};
 ghost use Rattle.steps.specs.One.{one};
 ghost use Rattle.steps.specs.Table.{slices, rows-of};
-ghost use Rattle.patterns.specs.Inner.{bytes-at, PatternAsked};
+ghost use Rattle.endings.specs.Inner.{bytes-at, PatternAsked};
 
 // Writes the values of the inputs, in their order, in the one of the number k: input variable v is ring variable n - v.
 pub fn write_pattern(

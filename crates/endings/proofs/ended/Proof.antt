@@ -1,10 +1,10 @@
-use Rattle.circuit.proofs.Verdicts.{ends-without-room, ends-never, ends-can, pattern-asks}
+use Rattle.endings.proofs.Ends.{ends-without-room, ends-never, ends-can, pattern-asks}
 use borrow.Author.Needs.{needs}
-use Rattle.circuit.proofs.ended.Statement.{statement}
-use Rattle.circuit.proofs.ended.Tie as tie
-use Rattle.circuit.proofs.ended.Reads as reads
-use Rattle.circuit.proofs.ended.Lts as lts
-use Rattle.patterns.proofs.write_pattern.Reads as write-pattern-reads
+use Rattle.endings.proofs.ended.Statement.{statement}
+use Rattle.endings.proofs.ended.Tie as tie
+use Rattle.endings.proofs.ended.Reads as reads
+use Rattle.endings.proofs.ended.Lts as lts
+use Rattle.endings.proofs.pattern.write_pattern.Reads as write-pattern-reads
 use Rattle.checks.proofs.clear.free_rows.Reads as free-rows-reads
 
 enum-known-made : tie.Need-enum-known-made

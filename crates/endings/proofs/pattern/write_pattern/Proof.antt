@@ -3,11 +3,11 @@ use mathlib.Core.Path.{refl}
 use borrow.Author.Needs.{needs}
 use native.Mathlib.Omega.{arith}
 use lib.ListN.{length}
-use Rattle.patterns.proofs.Patterns.{Written, one-asks, written-start, written-next, written-end}
-use Rattle.patterns.proofs.write_pattern.Statement.{statement}
-use Rattle.patterns.proofs.write_pattern.Tie as tie
-use Rattle.patterns.proofs.write_pattern.Reads as reads
-use Rattle.patterns.proofs.write_pattern.Lts as lts
+use Rattle.endings.proofs.Patterns.{Written, one-asks, written-start, written-next, written-end}
+use Rattle.endings.proofs.pattern.write_pattern.Statement.{statement}
+use Rattle.endings.proofs.pattern.write_pattern.Tie as tie
+use Rattle.endings.proofs.pattern.write_pattern.Reads as reads
+use Rattle.endings.proofs.pattern.write_pattern.Lts as lts
 use Rattle.numbers.proofs.seek.one_of.Reads as one-of-reads
 
 abbrev Inv-loop : tie.InvT-loop

@@ -5,8 +5,8 @@ use mathlib.Core.Path.{_≡_}
 use mathlib.Core.List.{List}
 use Rattle.steps.specs.Table.{Slices}
 use Rattle.verdicts.specs.Calls.{Answer, verdict-0, verdict-1, verdict-2, refusal, Left, left}
-use Rattle.circuit.specs.declared.Judged.{Judged}
-use Rattle.circuit.specs.declared.Judged.the-variants.{Never, Can, RoomOut, Refused}
+use Rattle.endings.specs.declared.Judged.{Judged}
+use Rattle.endings.specs.declared.Judged.the-variants.{Never, Can, RoomOut, Refused}
 
 -- the paper's verdict or refusal number, with the count of rows made
 abbrev pub answer-of : Judged → Answer

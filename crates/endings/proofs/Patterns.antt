@@ -17,7 +17,7 @@ use Rattle.numbers.specs.Inner.{Lasting}
 use Rattle.numbers.proofs.Ones.{bytes-at as bytes-of-at}
 use Rattle.verdicts.specs.Patterns.{bytes}
 use Rattle.verdicts.specs.Systems.{ring}
-use Rattle.patterns.specs.Inner.{bytes-at, PatternAsked}
+use Rattle.endings.specs.Inner.{bytes-at, PatternAsked}
 
 -- a table that is sound over N variables is sound over more
 
