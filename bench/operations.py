@@ -22,7 +22,7 @@ PARTS = {
     "sum": "sums::",
     "product": "products::",
     "normal form": "reduction::",
-    "the call": ("mg_", "circuit::", "gates::", "patterns::", "shown::"),
+    "the call": ("mg_", "circuit::", "gates::", "endings::", "shown::"),
 }
 BLOCKS = ["decoder-2", "random-20", "counter-16", "counter-40", "adder-8", "adder-7-apart", "multiplier-4", "popcount-12", "decoder-6", "random-60"]
 # A call, and how many variables and polynomials calls.c makes its table from.
@@ -92,8 +92,9 @@ class Profile:
         calls = self.calls
         return (
             calls["sum", "sum"] == 2 * calls["sum", "make"]
-            and calls["product", "product"] == 4 * calls["product", "make"]
-            and calls["product", "sum"] == 2 * calls["product", "make"]
+            # four products and two sums where the roots are equal, else two products
+            and calls["product", "product"] == 2 * calls["product", "make"] + calls["product", "sum"]
+            and calls["product", "sum"] % 2 == 0
             and calls["normal form", "normal form"] == 2 * calls["normal form", "make"] + 3 * self.met()
             and calls["normal form", "sum"] == self.met()
         )
