@@ -1,3 +1,4 @@
 pub mod Zeros
 pub mod Checking
 pub mod Endings
+pub mod CallEnds

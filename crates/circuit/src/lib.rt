@@ -14,7 +14,7 @@ use nets::for_circuit::number_of;
 use nets::for_circuit::read_net;
 use table::make::Made;
 ghost use mathlib.Core.Path.{_≡_};
-ghost use lib.ListN.{length, replicate, take};
+ghost use lib.ListN.{length, replicate};
 ghost use Rattle.steps.specs.Table.{slices};
 ghost use Rattle.aiger.specs.Answers as net;
 ghost use Rattle.verdicts.specs.Calls.{lengths-fine, end-with, judge, circuit-call};

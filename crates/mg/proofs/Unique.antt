@@ -5,9 +5,8 @@ use mathlib.Core.Path.{_≡_, refl, sym, ap, _∙_}
 use mathlib.Core.List.{List}
 use Rattle.steps.specs.Table.{Slices}
 use Rattle.table.specs.declared.Answer.{Answer}
-use Rattle.table.specs.Calls.{Left, left}
+use Rattle.table.specs.Calls.{Left, left, Does}
 use Rattle.numbers.specs.Calls.{variable-call, value-call, one-call, OneLeft, one-left, OneMeans}
-use Rattle.sums.specs.Calls.{Does}
 use Rattle.aiger.specs.Answers.{textCall}
 use Rattle.verdicts.specs.Calls.{Left as Circuit-left, left as circuit-left, Answer as Verdict, verdict-0, verdict-1, verdict-2, refusal, circuit-call}
 use Rattle.endings.specs.Answers.{answer-of, Answered}

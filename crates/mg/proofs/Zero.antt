@@ -16,13 +16,13 @@ use Rattle.steps.specs.Room.{Ending, made, full, within}
 use Rattle.table.specs.declared.Answer.{Answer}
 use Rattle.table.specs.declared.Answer.the-variants.{Made, Refused}
 use Rattle.table.specs.Lent.{room}
-use Rattle.table.specs.Calls.{unless_then_else_, checked, in-range, in-use, Left, left, refuse, end-in, take-steps, cleared}
+use Rattle.table.specs.Calls.{unless_then_else_, checked, in-range, in-use, Left, left, refuse, end-in, take-steps, cleared, Does}
 use Rattle.numbers.specs.declared.Valued.{Valued}
 use Rattle.numbers.specs.declared.Valued.the-variants.{Value, NoValue}
 use Rattle.numbers.specs.declared.Sought.{Sought}
 use Rattle.numbers.specs.declared.Sought.the-variants.{One, NoOne}
 use Rattle.numbers.specs.Calls.{variable-call, all-bits, value-call, OneLeft, one-left, one-call, OneMeans}
-use Rattle.sums.specs.Calls.{pair-call, Does, Means, Answered}
+use Rattle.pairs.specs.Calls.{pair-call, Means, Answered}
 use Rattle.normal.specs.Calls.{system-checked, in-order, equation-call, Adds, normal-call, Reduced}
 use Rattle.aiger.specs.Net.{Got, got, refused, Net, circuit}
 use Rattle.aiger.specs.Answers.{numberOfRefusal, answerOf, textCall}

@@ -5,10 +5,9 @@ ghost use mathlib.Core.Path.{_≡_};
 ghost use mathlib.Core.Bool.{xor, _&&_};
 ghost use lib.ListN.{length, replicate};
 ghost use Rattle.steps.specs.Table.{slices};
-ghost use Rattle.table.specs.Calls.{left};
+ghost use Rattle.table.specs.Calls.{left, Does};
 ghost use Rattle.numbers.specs.Calls.{variable-call, value-call, one-call, one-left, OneMeans};
-ghost use Rattle.sums.specs.Calls.{sum-call, Does, Answered};
-ghost use Rattle.products.specs.Calls.{product-call};
+ghost use Rattle.pairs.specs.Calls.{sum-call, product-call, Answered};
 ghost use Rattle.normal.specs.Calls.{equation-call, Adds, normal-call, Reduced};
 ghost use Rattle.aiger.specs.Answers.{textCall};
 ghost use Rattle.verdicts.specs.Calls.{circuit-call};
@@ -59,7 +58,7 @@ pub extern "C" fn mg_sum(
         k (now (row .entry), now (used .entry)) (now (row .exit), now (used .exit)) ⌝ }
     ensures { λ _. ⌜ now (work .exit) ≡ replicate (length (now (work .entry))) 0 ⌝ }
 {
-    let r = sums::sum(n, vs, ts, es, count, work, Row(f), Row(g));
+    let r = pairs::sum(n, vs, ts, es, count, work, Row(f), Row(g));
     shown::made(r, row, used)
 }
 
@@ -84,7 +83,7 @@ pub extern "C" fn mg_product(
         k (now (row .entry), now (used .entry)) (now (row .exit), now (used .exit)) ⌝ }
     ensures { λ _. ⌜ now (work .exit) ≡ replicate (length (now (work .entry))) 0 ⌝ }
 {
-    let r = products::product(n, vs, ts, es, count, work, Row(f), Row(g));
+    let r = pairs::product(n, vs, ts, es, count, work, Row(f), Row(g));
     shown::made(r, row, used)
 }
 

@@ -20,9 +20,8 @@ use Rattle.checks.specs.declared.check.Table.the-variants.{Fine, OutOfRange, Un
 use Rattle.table.specs.Lent.{Lent}
 use Rattle.table.specs.Inner.{Taken}
 use Rattle.checks.specs.Checks.{Checked}
-use Rattle.table.specs.Calls.{unless_then_else_, in-range, Left, left, refuse, take-steps, checked, finished}
-use Rattle.sums.specs.Calls.{Does}
-use Rattle.sums.proofs.CallEnds.{does-made, does-range, does-unsound, does-fine, does-unique}
+use Rattle.table.specs.Calls.{unless_then_else_, in-range, Left, left, refuse, take-steps, checked, finished, Does}
+use Rattle.checks.proofs.CallEnds.{does-made, does-range, does-unsound, does-fine, does-unique}
 use Rattle.normal.specs.Calls.{system-checked, in-order, equation-checked, equation-call, Adds, normal-checked, normal-call, Reduced}
 
 -- 3 and 4

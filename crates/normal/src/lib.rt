@@ -15,7 +15,7 @@ ghost use Prim.Native.Nat.{_≤_};
 ghost use lib.ListN.{length, replicate};
 ghost use Rattle.steps.specs.Table.{slices};
 ghost use Rattle.table.specs.Memory.{Live};
-ghost use Rattle.sums.specs.Calls.{Does};
+ghost use Rattle.table.specs.Calls.{Does};
 ghost use Rattle.normal.specs.Calls.{equation-checked, equation-call, Adds, normal-checked, normal-call, Reduced};
 
 fn equation_ready(

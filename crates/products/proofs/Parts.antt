@@ -1,13 +1,9 @@
 -- The product's steps go by the parts of its operands at the lesser root.
-use Prim.Native.Nat.{ℕ, suc, _+_, _<_}
+use Prim.Native.Nat.{ℕ, suc, _<_}
 use mathlib.Core.Path.{_≡_, sym, _∙_}
 use mathlib.Core.Bool.{_&&_, xor}
 use native.Mathlib.Omega.{arith}
-use mathlib.Core.List.{List}
-use Rattle.steps.specs.Rows.{Rows, next, row, value, Assignment}
-use Rattle.steps.specs.Table.{Slices, rows-of}
-use Rattle.steps.proofs.Table.{rows-of-next}
-use Rattle.table.specs.Memory.{Live}
+use Rattle.steps.specs.Rows.{Rows, next, row, value}
 use Rattle.steps.specs.Sound.{Sound}
 use Rattle.steps.specs.Steps.{answer, _>>=_, make, product}
 use Rattle.steps.proofs.Rows.{Cut, node}
@@ -15,7 +11,7 @@ use Rattle.steps.proofs.Roots.{cut-absent}
 use Rattle.steps.proofs.Product.{ok-products, then-step-ok, absent-right, absent-left, products-left-0, products-left-1, products-right-0, products-right-1, products-same}
 use Rattle.steps.proofs.Sum.{sums-left-0, sums-right-0}
 use Rattle.steps.proofs.Laws.{product-less, product-more, product-both}
-use Rattle.steps.proofs.Theorems.{Right, right, value-of-product}
+use Rattle.steps.proofs.Theorems.{Right, right}
 use Rattle.sums.specs.Inner.{Apart, Split, less, more, both}
 use Rattle.sums.proofs.Splits.{split-at}
 use Rattle.products.specs.Inner.{Proper, then-steps}
@@ -67,8 +63,3 @@ module _ (N : ℕ) (R : Rows) (s : Sound N R) (f g : ℕ) (uf : f < next R) (ug 
       let at = split-at N R s f g uf ug (apart a) p in
       let c = cuts p in
       right (then-step-ok N (suc N) (suc N) (ok-products N (suc N)) (omega arith) (omega arith) s (at .below) (c .0) (c .1))
-
--- the value of a product
-pub product-law : (N c : ℕ) (s : Slices) (work : List ℕ) (f g : ℕ) → Live N c s work → f < c + 2 → g < c + 2 → (a : Assignment)
-    → value a (product N f g (rows-of s c) .rows) (product N f g (rows-of s c) .num) ≡ value a (rows-of s c) f && value a (rows-of s c) g
-product-law N c s work f g d uf ug a = value-of-product N (rows-of s c) (d .sound) f g (omega (arith, rows-of-next s c)) (omega (arith, rows-of-next s c)) a

@@ -3,5 +3,3 @@ pub mod Splits
 pub mod Recalling
 pub mod Remembering
 pub mod Deep
-pub mod CallEnds
-pub mod PairCalls

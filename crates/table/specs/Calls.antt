@@ -1,6 +1,7 @@
 -- What the public calls on a table share: the order of the checks, and what a call that may append leaves.
 -- Assumes nothing: these are definitions.
 use Prim.Native.Nat.{ℕ, _+_, _-_}
+use mathlib.Core.Path.{_≡_}
 use mathlib.Core.Bool.{Bool, true, false, _&&_}
 use mathlib.Core.List.{List, [], _∷_, _++_}
 use lib.Dec.{eqb, leb, ltb}
@@ -78,3 +79,13 @@ take-steps m c s = end-in (within (room s) (m (rows-of s c))) c s
 abbrev pub finished : Row-made → ℕ → Slices → Left
 finished (At k n) c s = left (Made k n) s
 finished Full c s = left (Refused 7) (cleared c s)
+
+-- what is meant of a number k that was made, with n rows then in use in the slices s′
+abbrev pub IfMade : (ℕ → ℕ → Slices → Type 0) → Answer → Slices → Type 0
+IfMade Meant (Made k n) s′ = Meant (k .0) n s′
+IfMade Meant (Refused why) s′ = Unit {0}
+
+-- WHAT A CALL THAT MAY APPEND PROMISES: its answer and slices are those of its definition, and its number means what it must
+pub record Does (Meant : ℕ → ℕ → Slices → Type 0) (call : Left) (r : Answer) (s′ : Slices) : Type 0 where
+  pub is : call ≡ left r s′
+  pub means : IfMade Meant r s′

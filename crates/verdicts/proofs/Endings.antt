@@ -13,7 +13,7 @@ use Rattle.table.specs.declared.make.Made.the-variants.{At, Full}
 use Rattle.table.specs.Calls.{laid, cleared, Left as TableLeft, end-in}
 use Rattle.table.specs.Inner.{Taken}
 use Rattle.table.specs.Lent.{room, Lent}
-use Rattle.checks.proofs.Endings.{taken-ends}
+use Rattle.table.proofs.Ends.{taken-ends}
 use Rattle.aiger.specs.Net.{Net}
 use Rattle.verdicts.specs.Calls.{verdict-0, verdict-1, verdict-2, left, end-with}
 use Rattle.verdicts.specs.Patterns.{bytes, pattern-of}

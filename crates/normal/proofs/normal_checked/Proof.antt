@@ -1,6 +1,6 @@
 use borrow.Author.Needs.{needs}
 use Rattle.checks.proofs.Endings.{fine-live}
-use Rattle.sums.proofs.CallEnds.{fine-vars}
+use Rattle.checks.proofs.CallEnds.{fine-vars}
 use Rattle.normal.proofs.CallLaws.{normal-range, normal-unsound, normal-fine}
 use borrow.Author.Needs.{needs}
 use Rattle.normal.proofs.normal_checked.Statement.{statement}
