@@ -12,9 +12,9 @@ use Rattle.steps.specs.One.{one}
 use Rattle.steps.specs.Rows.{Rows, none, _▹_, next, row, root, Assignment, bit}
 use Rattle.steps.specs.Sound.{Sound}
 use Rattle.steps.specs.Table.{Slices, rows-of}
-use Rattle.numbers.specs.Calls.{bytes-of}
-use Rattle.numbers.specs.Inner.{Lasting}
-use Rattle.numbers.proofs.Ones.{bytes-at as bytes-of-at}
+use Rattle.assignments.specs.Bytes.{bytes-of}
+use Rattle.assignments.specs.Inner.{Lasting}
+use Rattle.assignments.proofs.Ones.{bytes-at as bytes-of-at}
 use Rattle.verdicts.specs.Patterns.{bytes}
 use Rattle.verdicts.specs.Systems.{ring}
 use Rattle.endings.specs.Inner.{bytes-at, PatternAsked}

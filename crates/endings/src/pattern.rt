@@ -1,6 +1,6 @@
 // For the crates above: the pattern that makes an output 1.
 use aiger::lines::Lit;
-use numbers::seek::one_of;
+use assignments::seek::one_of;
 use table::Row;
 use table::Var;
 ghost use mathlib.Core.Path.{_≡_};

@@ -11,7 +11,8 @@ use Rattle.steps.specs.Steps.{Steps, answer, _>>=_, make, sums, sum, products, 
 use Rattle.steps.specs.System.{equation}
 use Rattle.steps.specs.Table.{slices, rows-of}
 use Rattle.table.specs.Calls.{in-range, column, laid}
-use Rattle.numbers.specs.Calls.{bytes-of, OneLeft, one-call}
+use Rattle.assignments.specs.Bytes.{bytes-of}
+use Rattle.numbers.specs.Calls.{OneLeft, one-call}
 use Rattle.numbers.specs.declared.Sought.the-variants.{One, NoOne}
 
 -- polynomials and systems as the steps that make them

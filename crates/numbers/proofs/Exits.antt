@@ -11,8 +11,9 @@ use borrow.Author.Tests.{lt-ltb, le-ltb, eq-eqb, ne-eqb}
 use Rattle.steps.specs.Rows.{value}
 use Rattle.steps.specs.Sound.{sound}
 use Rattle.steps.specs.Table.{Slices, rows-of}
-use Rattle.numbers.specs.Calls.{variable-checked, variable-call, assigned, value-checked, value-call, bytes-of, OneLeft, one-left, one-checked, one-call, all-bits}
-use Rattle.numbers.specs.Inner.{Lasting}
+use Rattle.assignments.specs.Bytes.{assigned, bytes-of}
+use Rattle.numbers.specs.Calls.{variable-checked, variable-call, value-checked, value-call, OneLeft, one-left, one-checked, one-call, all-bits}
+use Rattle.assignments.specs.Inner.{Lasting}
 use Rattle.numbers.specs.declared.Sought.the-variants.{One, NoOne}
 use Rattle.numbers.specs.declared.Valued.{Valued}
 use Rattle.numbers.specs.declared.Valued.the-variants.{Value, NoValue}

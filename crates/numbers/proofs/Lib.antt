@@ -1,5 +1,3 @@
-pub mod Values
-pub mod Ones
 pub mod Exits
 pub mod Meanings
 pub mod Cases

@@ -10,8 +10,9 @@ use Rattle.steps.specs.Sound.{sound}
 use Rattle.steps.specs.Table.{Slices, rows-of}
 use Rattle.steps.specs.One.{one}
 use Rattle.steps.proofs.Sound.{sound-true}
-use Rattle.numbers.proofs.Ones.{one-means}
-use Rattle.numbers.specs.Calls.{variable-call, value-call, bytes-of, OneLeft, one-left, one-call, OneMeans}
+use Rattle.assignments.proofs.Ones.{one-means}
+use Rattle.assignments.specs.Bytes.{bytes-of}
+use Rattle.numbers.specs.Calls.{variable-call, value-call, OneLeft, one-left, one-call, OneMeans}
 use Rattle.numbers.specs.declared.Sought.{Sought}
 use Rattle.numbers.specs.declared.Sought.the-variants.{One, NoOne}
 use Rattle.numbers.specs.declared.Valued.{Valued}

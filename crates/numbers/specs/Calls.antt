@@ -1,17 +1,18 @@
 -- What the calls variable, value and one answer and leave, for all inputs. A call is one equation, so two outcomes that it allows coincide.
 -- Assumes nothing: these are definitions.
-use Prim.Native.Nat.{ℕ, zero, suc}
+use Prim.Native.Nat.{ℕ}
 use mathlib.Core.Path.{_≡_}
 use mathlib.Core.Bool.{Bool, true, _&&_, not}
-use mathlib.Core.List.{List, [], _∷_, _++_}
+use mathlib.Core.List.{List, [], _∷_}
 use lib.Dec.{eqb, ltb}
-use lib.ListN.{length, getD}
-use Rattle.steps.specs.Rows.{Assignment, value, bit}
+use lib.ListN.{length}
+use Rattle.steps.specs.Rows.{Assignment, value}
 use Rattle.steps.specs.Sound.{sound}
 use Rattle.steps.specs.Table.{Slices, rows-of}
 use Rattle.steps.specs.Steps.{make}
 use Rattle.steps.specs.One.{one, NotGreater}
 use Rattle.table.specs.Calls.{unless_then_else_, checked, in-range, in-use, Left, refuse, take-steps}
+use Rattle.assignments.specs.Bytes.{assigned, bytes-of}
 use Rattle.numbers.specs.declared.Valued.{Valued}
 use Rattle.numbers.specs.declared.Valued.the-variants.{Value, NoValue}
 use Rattle.numbers.specs.declared.Sought.{Sought}
@@ -24,10 +25,7 @@ variable-checked N c s v = unless ltb v N then refuse 5 s else take-steps (make 
 unfoldable pub variable-call : ℕ → ℕ → Slices → ℕ → Left
 variable-call N c s v = checked (in-range N c s) (sound N (rows-of s c)) (λ why. refuse why s) (variable-checked N c s v)
 
--- an assignment as bytes
-abbrev pub assigned : List ℕ → Assignment
-assigned bytes v = eqb (getD bytes v 0) 1
-
+-- whether all bytes are 0 or 1
 unfoldable pub all-bits : List ℕ → Bool
 all-bits [] = true
 all-bits (b ∷ bytes) = ltb b 2 && all-bits bytes
@@ -42,11 +40,6 @@ value-checked c s f bytes =
 -- "1: [..] assignment length not N"
 unfoldable pub value-call : ℕ → ℕ → Slices → ℕ → List ℕ → Valued
 value-call N c s f bytes = checked (eqb (length bytes) N && in-range N c s) (sound N (rows-of s c)) NoValue (value-checked c s f bytes)
-
--- the values of x_0 to x_(N-1), as bytes
-unfoldable pub bytes-of : ℕ → Assignment → List ℕ
-bytes-of zero a = []
-bytes-of (suc n) a = bytes-of n a ++ bit (a n) ∷ []
 
 -- what finding a one answers, and the assignment that it leaves
 pub record OneLeft : Type 0 where

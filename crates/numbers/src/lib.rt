@@ -1,10 +1,6 @@
-// The public calls on a table that need no arithmetic: the variable x_v, the value of a number at an assignment, and a one of it; and finding a one for the
-// crates above.
-mod evaluate;
-pub mod seek;
-
-use crate::evaluate::value_at;
-use crate::seek::one_of;
+// The public calls on a table that need no arithmetic: the variable x_v, the value of a number at an assignment, and a one of it.
+use assignments::evaluate::value_at;
+use assignments::seek::one_of;
 use checks::check::Table;
 use checks::check::check;
 use checks::clear::zero_work;
@@ -19,7 +15,7 @@ ghost use lib.ListN.{length, replicate};
 ghost use Rattle.steps.specs.Table.{slices};
 ghost use Rattle.table.specs.Memory.{Live};
 ghost use Rattle.table.specs.Calls.{left};
-ghost use Rattle.numbers.specs.Inner.{Lasting};
+ghost use Rattle.assignments.specs.Inner.{Lasting};
 ghost use Rattle.numbers.specs.Calls.{variable-checked, variable-call, all-bits, value-checked, value-call, one-left, one-checked, one-call, OneMeans};
 
 // What the call value answers.

@@ -4,7 +4,7 @@ use Rattle.numbers.proofs.one_ready.Statement.{statement}
 use Rattle.numbers.proofs.one_ready.Tie as tie
 use Rattle.numbers.proofs.one_ready.Reads as reads
 use Rattle.numbers.proofs.one_ready.Lts as lts
-use Rattle.numbers.proofs.seek.one_of.Reads as one-of-reads
+use Rattle.assignments.proofs.seek.one_of.Reads as one-of-reads
 
 add-if1 : tie.Need-add-if1
 add-if1 c = search needs

@@ -7,7 +7,7 @@ use Rattle.numbers.proofs.value_ready.Tie as tie
 use Rattle.numbers.proofs.value_ready.Reads as reads
 use Rattle.numbers.proofs.value_ready.Lts as lts
 use Rattle.numbers.proofs.all_bits.Reads as all-bits-reads
-use Rattle.numbers.proofs.evaluate.value_at.Reads as value-at-reads
+use Rattle.assignments.proofs.evaluate.value_at.Reads as value-at-reads
 
 add-if1 : tie.Need-add-if1
 add-if1 c = search needs

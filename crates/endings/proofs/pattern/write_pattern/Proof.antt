@@ -8,7 +8,7 @@ use Rattle.endings.proofs.pattern.write_pattern.Statement.{statement}
 use Rattle.endings.proofs.pattern.write_pattern.Tie as tie
 use Rattle.endings.proofs.pattern.write_pattern.Reads as reads
 use Rattle.endings.proofs.pattern.write_pattern.Lts as lts
-use Rattle.numbers.proofs.seek.one_of.Reads as one-of-reads
+use Rattle.assignments.proofs.seek.one_of.Reads as one-of-reads
 
 abbrev Inv-loop : tie.InvT-loop
 Inv-loop vs ts es count n ins pattern₀ ones i₀ pattern i = Written n ins pattern₀ pattern ones i

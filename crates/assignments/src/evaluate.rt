@@ -6,8 +6,8 @@ ghost use Prim.Native.Nat.{_+_, _<_, _≤_};
 ghost use lib.ListN.{length};
 ghost use Rattle.steps.specs.Rows.{value, bit};
 ghost use Rattle.steps.specs.Table.{slices, rows-of};
-ghost use Rattle.numbers.specs.Calls.{assigned};
-ghost use Rattle.numbers.specs.Inner.{Lasting, bit-of, Evaluated, Evaluable};
+ghost use Rattle.assignments.specs.Bytes.{assigned};
+ghost use Rattle.assignments.specs.Inner.{Lasting, bit-of, Evaluated, Evaluable};
 
 // The value of the number k, where the values of the rows stand in a slice.
 fn bit_of(values: &[u8], k: Row) -> u8

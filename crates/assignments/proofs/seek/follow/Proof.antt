@@ -1,11 +1,11 @@
 use native.Mathlib.Omega.{arith}
 use borrow.Author.Needs.{needs}
 use Rattle.steps.specs.Table.{slices}
-use Rattle.numbers.proofs.Ones.{Following, following-start, follow-stands, follow-var, follow-then-less, follow-else-less, follow-then, follow-else, follow-end}
-use Rattle.numbers.proofs.seek.follow.Statement.{statement}
-use Rattle.numbers.proofs.seek.follow.Tie as tie
-use Rattle.numbers.proofs.seek.follow.Reads as reads
-use Rattle.numbers.proofs.seek.follow.Lts as lts
+use Rattle.assignments.proofs.Ones.{Following, following-start, follow-stands, follow-var, follow-then-less, follow-else-less, follow-then, follow-else, follow-end}
+use Rattle.assignments.proofs.seek.follow.Statement.{statement}
+use Rattle.assignments.proofs.seek.follow.Tie as tie
+use Rattle.assignments.proofs.seek.follow.Reads as reads
+use Rattle.assignments.proofs.seek.follow.Lts as lts
 use Rattle.table.proofs.rows.node_at.Reads as node-at-reads
 
 abbrev Inv-loop : tie.InvT-loop

@@ -2,13 +2,13 @@ use Prim.Native.Nat.{_≤_, _-_}
 use mathlib.Core.Path.{sym, _∙_}
 use native.Mathlib.Omega.{arith}
 use Rattle.steps.specs.Table.{slices}
-use Rattle.numbers.specs.Inner.{Evaluated}
-use Rattle.numbers.proofs.Values.{evaluated-next, evaluated-upto}
-use Rattle.numbers.proofs.evaluate.row_values.Statement.{statement}
-use Rattle.numbers.proofs.evaluate.row_values.Tie as tie
-use Rattle.numbers.proofs.evaluate.row_values.Reads as reads
-use Rattle.numbers.proofs.evaluate.row_values.Lts as lts
-use Rattle.numbers.proofs.evaluate.row_value.Reads as row-value-reads
+use Rattle.assignments.specs.Inner.{Evaluated}
+use Rattle.assignments.proofs.Values.{evaluated-next, evaluated-upto}
+use Rattle.assignments.proofs.evaluate.row_values.Statement.{statement}
+use Rattle.assignments.proofs.evaluate.row_values.Tie as tie
+use Rattle.assignments.proofs.evaluate.row_values.Reads as reads
+use Rattle.assignments.proofs.evaluate.row_values.Lts as lts
+use Rattle.assignments.proofs.evaluate.row_value.Reads as row-value-reads
 
 abbrev Inv-loop : tie.InvT-loop
 Inv-loop vs ts es count upto bytes values₀ i₀ values i = (i ≤ upto) × Evaluated count i (slices vs ts es) bytes values

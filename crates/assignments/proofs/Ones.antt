@@ -20,8 +20,8 @@ use Rattle.steps.proofs.Occurs.{occurs-below, one-absent}
 use Rattle.steps.proofs.Theorems.{one-is-one, one-is-least}
 use Rattle.steps.proofs.Sound.{sound-below}
 use Rattle.steps.proofs.Table.{rows-of-next, rows-of-number, rows-of-part}
-use Rattle.numbers.specs.Calls.{assigned, bytes-of}
-use Rattle.numbers.specs.Inner.{Lasting}
+use Rattle.assignments.specs.Bytes.{assigned, bytes-of}
+use Rattle.assignments.specs.Inner.{Lasting}
 use Rattle.table.specs.Lent.{Stands}
 
 pub bytes-length : (n : ℕ) (a : Assignment) → length (bytes-of n a) ≡ n

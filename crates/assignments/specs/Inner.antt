@@ -10,7 +10,7 @@ use Rattle.steps.specs.Rows.{value, bit}
 use Rattle.steps.specs.Sound.{Sound}
 use Rattle.steps.specs.Table.{Slices, rows-of}
 use Rattle.table.specs.Lent.{Lent}
-use Rattle.numbers.specs.Calls.{assigned}
+use Rattle.assignments.specs.Bytes.{assigned}
 
 -- a lent, sound table over as many variables as there are bytes
 pub record Lasting (c : ℕ) (s : Slices) (bytes : List ℕ) : Type 0 where

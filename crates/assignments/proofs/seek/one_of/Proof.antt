@@ -1,10 +1,10 @@
-use Rattle.numbers.proofs.Ones.{lasting-zeros, zeros-again, found-in}
+use Rattle.assignments.proofs.Ones.{lasting-zeros, zeros-again, found-in}
 use borrow.Author.Needs.{needs}
-use Rattle.numbers.proofs.seek.one_of.Statement.{statement}
-use Rattle.numbers.proofs.seek.one_of.Tie as tie
-use Rattle.numbers.proofs.seek.one_of.Reads as reads
-use Rattle.numbers.proofs.seek.one_of.Lts as lts
-use Rattle.numbers.proofs.seek.follow.Reads as follow-reads
+use Rattle.assignments.proofs.seek.one_of.Statement.{statement}
+use Rattle.assignments.proofs.seek.one_of.Tie as tie
+use Rattle.assignments.proofs.seek.one_of.Reads as reads
+use Rattle.assignments.proofs.seek.one_of.Lts as lts
+use Rattle.assignments.proofs.seek.follow.Reads as follow-reads
 use Rattle.checks.proofs.clear.zero_bytes.Reads as zero-bytes-reads
 
 zero-bytes-requires : tie.Need-zero-bytes-requires

@@ -16,8 +16,8 @@ use Rattle.steps.proofs.Bools.{xor-false}
 use Rattle.steps.proofs.Sound.{sound-below}
 use Rattle.steps.proofs.Rows.{Node, node, value-0, value-1}
 use Rattle.steps.proofs.Table.{rows-of-next, rows-of-row, rows-of-part}
-use Rattle.numbers.specs.Calls.{assigned}
-use Rattle.numbers.specs.Inner.{bit-of, Evaluated, Evaluable}
+use Rattle.assignments.specs.Bytes.{assigned}
+use Rattle.assignments.specs.Inner.{bit-of, Evaluated, Evaluable}
 use Rattle.table.specs.Lent.{Stands}
 
 pub bit-const : (values : List ℕ) (k : ℕ) → k < 2 → bit-of values k ≡ k

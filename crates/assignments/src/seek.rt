@@ -7,8 +7,8 @@ ghost use Prim.Native.Nat.{_+_, _<_};
 ghost use lib.ListN.{length, replicate};
 ghost use Rattle.steps.specs.One.{one};
 ghost use Rattle.steps.specs.Table.{slices, rows-of};
-ghost use Rattle.numbers.specs.Calls.{bytes-of};
-ghost use Rattle.numbers.specs.Inner.{Lasting};
+ghost use Rattle.assignments.specs.Bytes.{bytes-of};
+ghost use Rattle.assignments.specs.Inner.{Lasting};
 
 // Follows the rows from the number f on, and sets to 1 what is 1 in the one that is found; the other bytes are zeros.
 fn follow(vs: &[u16], ts: &[u16], es: &[u16], count: usize, f: Row, bytes: &mut [u8])

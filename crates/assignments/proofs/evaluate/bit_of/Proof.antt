@@ -1,9 +1,9 @@
-use Rattle.numbers.proofs.Values.{bit-const, bit-row}
+use Rattle.assignments.proofs.Values.{bit-const, bit-row}
 use borrow.Author.Needs.{needs}
-use Rattle.numbers.proofs.evaluate.bit_of.Statement.{statement}
-use Rattle.numbers.proofs.evaluate.bit_of.Tie as tie
-use Rattle.numbers.proofs.evaluate.bit_of.Reads as reads
-use Rattle.numbers.proofs.evaluate.bit_of.Lts as lts
+use Rattle.assignments.proofs.evaluate.bit_of.Statement.{statement}
+use Rattle.assignments.proofs.evaluate.bit_of.Tie as tie
+use Rattle.assignments.proofs.evaluate.bit_of.Reads as reads
+use Rattle.assignments.proofs.evaluate.bit_of.Lts as lts
 
 cast-result : tie.Need-cast-result
 cast-result c = search needs

@@ -1,11 +1,11 @@
 use mathlib.Core.Path.{refl}
-use Rattle.numbers.proofs.Values.{value-const, value-read}
+use Rattle.assignments.proofs.Values.{value-const, value-read}
 use borrow.Author.Needs.{needs}
-use Rattle.numbers.proofs.evaluate.value_at.Statement.{statement}
-use Rattle.numbers.proofs.evaluate.value_at.Tie as tie
-use Rattle.numbers.proofs.evaluate.value_at.Reads as reads
-use Rattle.numbers.proofs.evaluate.value_at.Lts as lts
-use Rattle.numbers.proofs.evaluate.row_values.Reads as row-values-reads
+use Rattle.assignments.proofs.evaluate.value_at.Statement.{statement}
+use Rattle.assignments.proofs.evaluate.value_at.Tie as tie
+use Rattle.assignments.proofs.evaluate.value_at.Reads as reads
+use Rattle.assignments.proofs.evaluate.value_at.Lts as lts
+use Rattle.assignments.proofs.evaluate.row_values.Reads as row-values-reads
 
 returns : tie.Need-returns
 returns c = value-const _ _ _ (c .before .if1 .taken)

@@ -1,11 +1,11 @@
 use native.Mathlib.Omega.{arith}
-use Rattle.numbers.proofs.Values.{row-stands, var-in, then-in, else-in, without, with-same, with-apart}
+use Rattle.assignments.proofs.Values.{row-stands, var-in, then-in, else-in, without, with-same, with-apart}
 use borrow.Author.Needs.{needs}
-use Rattle.numbers.proofs.evaluate.row_value.Statement.{statement}
-use Rattle.numbers.proofs.evaluate.row_value.Tie as tie
-use Rattle.numbers.proofs.evaluate.row_value.Reads as reads
-use Rattle.numbers.proofs.evaluate.row_value.Lts as lts
-use Rattle.numbers.proofs.evaluate.bit_of.Reads as bit-of-reads
+use Rattle.assignments.proofs.evaluate.row_value.Statement.{statement}
+use Rattle.assignments.proofs.evaluate.row_value.Tie as tie
+use Rattle.assignments.proofs.evaluate.row_value.Reads as reads
+use Rattle.assignments.proofs.evaluate.row_value.Lts as lts
+use Rattle.assignments.proofs.evaluate.bit_of.Reads as bit-of-reads
 use Rattle.table.proofs.rows.node_at.Reads as node-at-reads
 
 node-at-requires : tie.Need-node-at-requires
