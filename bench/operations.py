@@ -22,7 +22,7 @@ PARTS = {
     "sum": "sums::",
     "product": "products::",
     "normal form": "reduction::",
-    "the call": ("mg_", "circuit::", "gates::", "endings::", "shown::"),
+    "the call": ("mg_", "circuit::", "gates::", "endings::", "pairs::", "normal::", "shown::"),
 }
 BLOCKS = ["decoder-2", "random-20", "counter-16", "counter-40", "adder-8", "adder-7-apart", "multiplier-4", "popcount-12", "decoder-6", "random-60"]
 # A call, and how many variables and polynomials calls.c makes its table from.

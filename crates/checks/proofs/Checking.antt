@@ -19,7 +19,7 @@ use Rattle.table.specs.Inner.{number-of, Some, Finds}
 use Rattle.steps.proofs.Sound.{fits-true, sound-true, sound-part}
 use Rattle.steps.proofs.Table.{rows-of-count, rows-of-next, rows-of-part}
 use Rattle.table.specs.Lent.{room, Lent, Stands}
-use Rattle.table.specs.Index.{index-words, bucket, Followed, Apart, Indexed, enter, Linkable, Front}
+use Rattle.table.specs.Index.{index-words, Followed, Apart, Indexed, enter, Linkable, Front}
 use Rattle.table.specs.Memory.{reach}
 use Rattle.table.specs.Calls.{in-range}
 use Rattle.checks.specs.declared.check.Table.the-variants.{Fine, Unsound}
@@ -93,9 +93,6 @@ module _ (N c : ℕ) (s : Slices) (work₀ : List ℕ) (p : Prepared c s work₀
         pub checking-linkable : Linkable H i work
         checking-linkable =
             rw (rows-of-count s i, checking-words) at (linkable (room s) work (rows-of s i) (p .lent .small) (omega (arith, rows-of-count s i, p .lent .used)) (k .indexed .chains))
-
-        pub checking-bucket : (r : Row) (b : ℕ) → bucket H r ≡ b → 0 < H → b < H
-        checking-bucket r b q u = rw q at (checking-linkable .buckets u r)
 
       -- an unsound row makes the table unsound
       not-sound : fits N (rows-of s i) (row-at s i) ≡ false → SoundChecked false N c s work

@@ -17,7 +17,7 @@ ghost use Rattle.sums.specs.Inner.{Pair};
 ghost use Rattle.pairs.specs.Calls.{steps-of, op-of, pair-checked, pair-call, sum-call, product-call, Answered};
 
 // Which of the two calls is made.
-pub enum Operation {
+enum Operation {
     Sum,
     Product,
 }

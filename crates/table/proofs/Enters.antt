@@ -12,7 +12,7 @@ use Rattle.steps.proofs.Table.{rows-of-count}
 use Rattle.table.specs.declared.Row.{Row}
 use Rattle.table.specs.declared.make.Made.{Made}
 use Rattle.table.specs.declared.make.Made.the-variants.{At, Full}
-use Rattle.table.specs.Index.{index-words, bucket, Chains, Apart, Indexed, enter, Linkable, Front}
+use Rattle.table.specs.Index.{index-words, Chains, Apart, Indexed, enter, Linkable, Front}
 use Rattle.table.specs.Inner.{Taken, IndexOf, Entered}
 use Rattle.table.proofs.Links.{linkable, enter-front, enter-chains, front-refl}
 use Rattle.table.proofs.Takes.{taken-by, taken-nothing, taken-lent, taken-rows, append-full}
@@ -51,9 +51,6 @@ module _ (vs ts es : List ℕ) (c v t e : ℕ) (work : List ℕ) (d : Indexed c 
 
     pub add-linkable : Linkable H c work
     add-linkable = rw (rows-of-count s c, z) at (linkable (length vs) work R (d .lent .small) free (d .chains))
-
-    pub add-bucket : (b : ℕ) → bucket H (row-of v t e) ≡ b → 0 < H → b < H
-    add-bucket b q p = rw q at (add-linkable .buckets p (row-of v t e))
 
     module _ (work′ : List ℕ) (q : enter H c (row-of v t e) work ≡ work′) where
       pub added-front : Front (length vs) work work′

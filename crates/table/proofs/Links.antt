@@ -13,6 +13,10 @@ use Rattle.steps.proofs.Rows.{next-count}
 use Rattle.table.specs.Index.{index-words, bucket, newest-in, Followed, Chains, link, enter, Linkable, Front}
 use Rattle.table.proofs.Buckets.{Spans, spans, spans-fits, spans-room, spans-bucket, newest-here, newest-other, newest-below}
 
+-- a row's bucket is one of the index's words
+pub bucket-in : {H i : ℕ} {work : List ℕ} → Linkable H i work → (r : Row) {b : ℕ} → bucket H r ≡ b → 0 < H → b < H
+bucket-in l r q p = rw q at (l .buckets p r)
+
 -- words of two halves
 pub pack-high : (a l : ℕ) → l < 65536 → (a * 65536 + l) / 65536 ≡ a
 pack-high a l h = omega arith

@@ -4,7 +4,8 @@ use native.Mathlib.Omega.{arith}
 use borrow.Author.Tests.{not-true, not-false}
 use borrow.Author.Needs.{needs}
 use Rattle.steps.specs.Table.{slices}
-use Rattle.checks.proofs.Checking.{Checking, checking-start, checking-next, checking-stands, checking-words, checking-linkable, checking-bucket, checking-fails, checking-again, checking-end}
+use Rattle.table.proofs.Links.{bucket-in}
+use Rattle.checks.proofs.Checking.{Checking, checking-start, checking-next, checking-stands, checking-words, checking-linkable, checking-fails, checking-again, checking-end}
 use Rattle.checks.proofs.check.rows_sound.Statement.{statement}
 use Rattle.checks.proofs.check.rows_sound.Tie as tie
 use Rattle.checks.proofs.check.rows_sound.Reads as reads
@@ -43,7 +44,7 @@ returns : tie.Need-returns Inv-loop μ-loop
 returns c = let c4 = c .before .before .before .before in let c5 = c4 .before in let c6 = c5 .before in let c12 = c6 .before .before .before .before .before .before in checking-fails _ _ _ _ ((c12 .pre)) _ _ ((c6 .loop .inv)) ((c5 .loop-test .taken)) _ ((c4 .node-at .ensures)) (((c .before .row-fits .ensures)) ∙ not-true _ ((c .if1 .taken)))
 
 enter-requires : tie.Need-enter-requires Inv-loop μ-loop
-enter-requires c κs = let c4 = c .before .before .before .before in let c6 = c4 .before .before in let c7 = c6 .before in let c8 = c7 .before in let c13 = c8 .before .before .before .before .before in (checking-linkable _ _ _ _ ((c13 .pre)) _ _ ((c7 .loop .inv)) ((c6 .loop-test .taken)) _ ((c8 .index-words .ensures)), checking-bucket _ _ _ _ ((c13 .pre)) _ _ ((c7 .loop .inv)) ((c6 .loop-test .taken)) _ ((c8 .index-words .ensures)) _ _ ((c4 .bucket .ensures)))
+enter-requires c κs = let c4 = c .before .before .before .before in let c6 = c4 .before .before in let c7 = c6 .before in let c8 = c7 .before in let c13 = c8 .before .before .before .before .before in let l = checking-linkable _ _ _ _ (c13 .pre) _ _ (c7 .loop .inv) (c6 .loop-test .taken) _ (c8 .index-words .ensures) in (l, bucket-in l _ (c4 .bucket .ensures))
 
 add-i : tie.Need-add-i Inv-loop μ-loop
 add-i c = omega arith

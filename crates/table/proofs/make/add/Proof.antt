@@ -1,4 +1,5 @@
-use Rattle.table.proofs.Enters.{add-full, add-linkable, add-bucket, add-room}
+use Rattle.table.proofs.Enters.{add-full, add-linkable, add-room}
+use Rattle.table.proofs.Links.{bucket-in}
 use borrow.Author.Needs.{needs}
 use borrow.Author.Needs.{needs}
 use Rattle.table.proofs.make.add.Statement.{statement}
@@ -12,7 +13,7 @@ returns : tie.Need-returns
 returns c = let c5 = c .before .before .before .before .before in add-full _ _ _ _ _ _ _ _ ((c5 .pre .0)) ((c .if1 .taken))
 
 enter-requires : tie.Need-enter-requires
-enter-requires c κs = let c6 = c .before .before .before .before .before .before in (add-linkable _ _ _ _ 0 0 0 _ ((c6 .pre .0)) ((c .before .if1 .left)) _ ((c6 .pre .1) .0 .words), add-bucket _ _ _ _ _ _ _ _ ((c6 .pre .0)) ((c .before .if1 .left)) _ ((c6 .pre .1) .0 .words) _ ((c6 .pre .1) .0 .place))
+enter-requires c κs = let c6 = c .before .before .before .before .before .before in let l = add-linkable _ _ _ _ 0 0 0 _ (c6 .pre .0) (c .before .if1 .left) _ (c6 .pre .1 .0 .words) in (l, bucket-in l _ (c6 .pre .1 .0 .place))
 
 append-requires : tie.Need-append-requires
 append-requires c κs = search needs
