@@ -1,7 +1,7 @@
 // For the crates above: finding a one. At each row the else-part is followed unless it is 0.
-use checks::clear::zero_bytes;
 use table::Row;
 use table::rows::node_at;
+use zeros::zero_bytes;
 ghost use mathlib.Core.Path.{_≡_};
 ghost use Prim.Native.Nat.{_+_, _<_};
 ghost use lib.ListN.{length, replicate};

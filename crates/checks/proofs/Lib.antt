@@ -1,4 +1,4 @@
-pub mod Zeros
+pub mod Freed
 pub mod Checking
 pub mod Endings
 pub mod CallEnds

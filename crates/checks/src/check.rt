@@ -1,5 +1,4 @@
 // For the crates above: the checks that every call on a table makes first.
-use crate::clear::zero_words;
 use table::index::Found;
 use table::index::bucket;
 use table::index::enter;
@@ -9,6 +8,7 @@ use table::memory::words_used;
 use table::rows::Node;
 use table::rows::node_at;
 use table::rows::row_of;
+use zeros::zero_words;
 ghost use mathlib.Core.Path.{_≡_};
 ghost use Prim.Native.Nat.{_<_};
 ghost use lib.ListN.{length};

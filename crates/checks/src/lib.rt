@@ -1,4 +1,3 @@
-// For the crates above: what every call on a table does first and last. It checks what is lent, and leaves zeros.
+// For the crates above: what every call on a table does first and last. It checks what is lent, and zeros the free rows where room has run out.
 pub mod check;
-pub mod clear;
 pub mod finish;

@@ -2,7 +2,7 @@
 pub mod pattern;
 
 use crate::pattern::write_pattern;
-use checks::clear::free_rows;
+use checks::finish::free_rows;
 use table::make::Made;
 ghost use lib.ListN.{length, take};
 ghost use Rattle.steps.specs.Table.{slices};

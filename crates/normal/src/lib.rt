@@ -1,7 +1,6 @@
 // The calls equation and normal form.
 use checks::check::Table;
 use checks::check::check;
-use checks::clear::zero_work;
 use checks::finish::finish;
 use reduction::reduce;
 use table::Answer;
@@ -10,6 +9,7 @@ use table::Var;
 use table::make::make;
 use table::rows::Node;
 use table::rows::row_of;
+use zeros::zero_work;
 ghost use mathlib.Core.Path.{_≡_};
 ghost use Prim.Native.Nat.{_≤_};
 ghost use lib.ListN.{length, replicate};

@@ -1,11 +1,11 @@
 // The calls sum and product. They differ in the written steps that are taken, and in nothing else.
 use checks::check::Table;
 use checks::check::check;
-use checks::clear::zero_work;
 use checks::finish::finish;
 use table::Answer;
 use table::Row;
 use table::make::Made;
+use zeros::zero_work;
 ghost use mathlib.Core.Path.{_≡_};
 ghost use mathlib.Core.Bool.{xor, _&&_};
 ghost use Prim.Native.Nat.{_≤_};

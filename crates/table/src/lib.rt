@@ -1,5 +1,5 @@
 // The node table: three lent slices, for variable, then and else. Its modules are for the crates above, which nobody else is offered; the public calls on a
-// table stand in the crates numbers, sums, products and normal.
+// table stand in the crates numbers, pairs and normal.
 pub mod index;
 pub mod make;
 pub mod memory;

@@ -5,7 +5,7 @@ use Rattle.circuit.proofs.circuit.Tie as tie
 use Rattle.circuit.proofs.circuit.Reads as reads
 use Rattle.circuit.proofs.circuit.Lts as lts
 use Rattle.circuit.proofs.circuit_read.Reads as circuit-read-reads
-use Rattle.checks.proofs.clear.zero_work.Reads as zero-work-reads
+use Rattle.zeros.proofs.zero_work.Reads as zero-work-reads
 
 circuit-read-requires : tie.Need-circuit-read-requires
 circuit-read-requires c κs = search needs

@@ -5,7 +5,7 @@ use Rattle.endings.proofs.ended.Tie as tie
 use Rattle.endings.proofs.ended.Reads as reads
 use Rattle.endings.proofs.ended.Lts as lts
 use Rattle.endings.proofs.pattern.write_pattern.Reads as write-pattern-reads
-use Rattle.checks.proofs.clear.free_rows.Reads as free-rows-reads
+use Rattle.checks.proofs.finish.free_rows.Reads as free-rows-reads
 
 enum-known-made : tie.Need-enum-known-made
 enum-known-made c = search needs

@@ -6,7 +6,7 @@ use Rattle.normal.proofs.normal_form.Tie as tie
 use Rattle.normal.proofs.normal_form.Reads as reads
 use Rattle.normal.proofs.normal_form.Lts as lts
 use Rattle.normal.proofs.normal_checked.Reads as normal-checked-reads
-use Rattle.checks.proofs.clear.zero_work.Reads as zero-work-reads
+use Rattle.zeros.proofs.zero_work.Reads as zero-work-reads
 
 normal-checked-requires : tie.Need-normal-checked-requires
 normal-checked-requires c κs = search needs

@@ -5,7 +5,7 @@ use Rattle.numbers.proofs.variable.Tie as tie
 use Rattle.numbers.proofs.variable.Reads as reads
 use Rattle.numbers.proofs.variable.Lts as lts
 use Rattle.numbers.proofs.variable_checked.Reads as variable-checked-reads
-use Rattle.checks.proofs.clear.zero_work.Reads as zero-work-reads
+use Rattle.zeros.proofs.zero_work.Reads as zero-work-reads
 
 variable-checked-requires : tie.Need-variable-checked-requires
 variable-checked-requires c κs = search needs

@@ -5,7 +5,7 @@ use Rattle.assignments.proofs.seek.one_of.Tie as tie
 use Rattle.assignments.proofs.seek.one_of.Reads as reads
 use Rattle.assignments.proofs.seek.one_of.Lts as lts
 use Rattle.assignments.proofs.seek.follow.Reads as follow-reads
-use Rattle.checks.proofs.clear.zero_bytes.Reads as zero-bytes-reads
+use Rattle.zeros.proofs.zero_bytes.Reads as zero-bytes-reads
 
 zero-bytes-requires : tie.Need-zero-bytes-requires
 zero-bytes-requires c κs = search needs

@@ -11,7 +11,7 @@ use Rattle.checks.proofs.check.check.Reads as reads
 use Rattle.checks.proofs.check.check.Lts as lts
 use Rattle.checks.proofs.check.in_range.Reads as in-range-reads
 use Rattle.checks.proofs.check.rows_sound.Reads as rows-sound-reads
-use Rattle.checks.proofs.clear.zero_words.Reads as zero-words-reads
+use Rattle.zeros.proofs.zero_words.Reads as zero-words-reads
 use Rattle.table.proofs.memory.words_used.Reads as words-used-reads
 
 in-range-requires : tie.Need-in-range-requires

@@ -4,7 +4,7 @@ use Rattle.checks.proofs.finish.finish.Statement.{statement}
 use Rattle.checks.proofs.finish.finish.Tie as tie
 use Rattle.checks.proofs.finish.finish.Reads as reads
 use Rattle.checks.proofs.finish.finish.Lts as lts
-use Rattle.checks.proofs.clear.free_rows.Reads as free-rows-reads
+use Rattle.checks.proofs.finish.free_rows.Reads as free-rows-reads
 
 enum-known-made : tie.Need-enum-known-made
 enum-known-made c = search needs

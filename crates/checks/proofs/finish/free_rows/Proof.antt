@@ -1,11 +1,11 @@
 use denote.Ref.{now}
-use Rattle.checks.proofs.Zeros.{slices-same, zeros-from}
+use Rattle.checks.proofs.Freed.{slices-same, zeros-from}
 use borrow.Author.Needs.{needs}
-use Rattle.checks.proofs.clear.free_rows.Statement.{statement}
-use Rattle.checks.proofs.clear.free_rows.Tie as tie
-use Rattle.checks.proofs.clear.free_rows.Reads as reads
-use Rattle.checks.proofs.clear.free_rows.Lts as lts
-use Rattle.checks.proofs.clear.zero_numbers.Reads as zero-numbers-reads
+use Rattle.checks.proofs.finish.free_rows.Statement.{statement}
+use Rattle.checks.proofs.finish.free_rows.Tie as tie
+use Rattle.checks.proofs.finish.free_rows.Reads as reads
+use Rattle.checks.proofs.finish.free_rows.Lts as lts
+use Rattle.zeros.proofs.zero_numbers.Reads as zero-numbers-reads
 
 mul-zero-numbers : tie.Need-mul-zero-numbers
 mul-zero-numbers c = search needs

@@ -1,11 +1,11 @@
 use Prim.Native.Nat.{_≤_, _-_}
 use mathlib.Core.Path.{refl}
 use native.Mathlib.Omega.{arith}
-use Rattle.checks.proofs.Zeros.{Filled, zeros-more, zeros-upto}
-use Rattle.checks.proofs.clear.zero_words.Statement.{statement}
-use Rattle.checks.proofs.clear.zero_words.Tie as tie
-use Rattle.checks.proofs.clear.zero_words.Reads as reads
-use Rattle.checks.proofs.clear.zero_words.Lts as lts
+use Rattle.zeros.proofs.Zeros.{Filled, zeros-more, zeros-upto}
+use Rattle.zeros.proofs.zero_words.Statement.{statement}
+use Rattle.zeros.proofs.zero_words.Tie as tie
+use Rattle.zeros.proofs.zero_words.Reads as reads
+use Rattle.zeros.proofs.zero_words.Lts as lts
 
 abbrev Inv-loop : tie.InvT-loop
 Inv-loop xs₀ upto i₀ xs i = (i ≤ upto) × Filled xs₀ i xs

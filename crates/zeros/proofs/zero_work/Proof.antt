@@ -1,10 +1,10 @@
-use Rattle.checks.proofs.Zeros.{zeros-all}
+use Rattle.zeros.proofs.Zeros.{zeros-all}
 use borrow.Author.Needs.{needs}
-use Rattle.checks.proofs.clear.zero_work.Statement.{statement}
-use Rattle.checks.proofs.clear.zero_work.Tie as tie
-use Rattle.checks.proofs.clear.zero_work.Reads as reads
-use Rattle.checks.proofs.clear.zero_work.Lts as lts
-use Rattle.checks.proofs.clear.zero_words.Reads as zero-words-reads
+use Rattle.zeros.proofs.zero_work.Statement.{statement}
+use Rattle.zeros.proofs.zero_work.Tie as tie
+use Rattle.zeros.proofs.zero_work.Reads as reads
+use Rattle.zeros.proofs.zero_work.Lts as lts
+use Rattle.zeros.proofs.zero_words.Reads as zero-words-reads
 
 zero-words-requires : tie.Need-zero-words-requires
 zero-words-requires c κs = search needs

@@ -1,11 +1,8 @@
-// For the crates above: zeros.
+// For the crates above: zeros, written into a slice.
 ghost use mathlib.Core.Path.{_≡_};
 ghost use mathlib.Core.List.{_++_};
 ghost use Prim.Native.Nat.{_≤_};
 ghost use lib.ListN.{length, replicate, drop};
-ghost use Rattle.steps.specs.Table.{slices};
-ghost use Rattle.table.specs.Lent.{Lent};
-ghost use Rattle.table.specs.Calls.{cleared};
 
 // Zeros the first words of the working slice.
 pub fn zero_words(xs: &mut [u64], upto: usize)
@@ -27,6 +24,7 @@ pub fn zero_work(work: &mut [u64])
     zero_words(work, all);
 }
 
+// Zeros free rows, one column of them.
 pub fn zero_numbers(rows: &mut [u16])
     ensures { λ _. ⌜ now (rows .exit) ≡ replicate (length (now (rows .entry))) 0 ⌝ }
 {
@@ -37,6 +35,7 @@ pub fn zero_numbers(rows: &mut [u16])
     }
 }
 
+// Zeros an assignment.
 pub fn zero_bytes(xs: &mut [u8])
     ensures { λ _. ⌜ now (xs .exit) ≡ replicate (length (now (xs .entry))) 0 ⌝ }
 {
@@ -45,15 +44,4 @@ pub fn zero_bytes(xs: &mut [u8])
         xs[i] = 0;
         i += 1;
     }
-}
-
-// Zeros all free rows.
-pub fn free_rows(vs: &mut [u16], ts: &mut [u16], es: &mut [u16], count: usize)
-    requires { ⌜ Lent count (slices (now vs) (now ts) (now es)) ⌝ }
-    ensures { λ _. ⌜ slices (now (vs .exit)) (now (ts .exit)) (now (es .exit)) ≡ cleared count
-        (slices (now (vs .entry)) (now (ts .entry)) (now (es .entry))) ⌝ }
-{
-    zero_numbers(&mut vs[count..]);
-    zero_numbers(&mut ts[count..]);
-    zero_numbers(&mut es[count..]);
 }

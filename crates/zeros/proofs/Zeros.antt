@@ -1,12 +1,10 @@
 -- Slices filled with zeros.
-use Prim.Native.Nat.{ℕ, _+_, _-_, _<_, _≤_}
+use Prim.Native.Nat.{ℕ, _+_, _<_, _≤_}
 use mathlib.Core.Path.{_≡_, ap, _∙_}
-use mathlib.Core.List.{List, [], _++_, append-nil}
+use mathlib.Core.List.{List, _++_, append-nil}
 use native.Mathlib.Omega.{arith}
 use borrow.Author.Fill.{fill-more}
-use borrow.Rule.Slice.PartMut.{midOf, putMid, mid-len}
-use lib.ListN.{length, take, drop, set, replicate, length-set, length-drop, drop-of-length-le}
-use Rattle.steps.specs.Table.{slices}
+use lib.ListN.{length, drop, set, replicate, length-set, drop-of-length-le}
 
 abbrev pub Filled : List ℕ → ℕ → List ℕ → Type 0
 Filled xs₀ i xs = (i ≤ length xs₀) × (length xs ≡ length xs₀) × (xs ≡ replicate i 0 ++ drop i xs₀)
@@ -18,16 +16,6 @@ pub zeros-end : (i : ℕ) (xs₀ xs : List ℕ) → length xs ≤ i → Filled x
 zeros-end i xs₀ xs h inv =
     let q : i ≡ length xs₀ = omega (arith, inv .0, inv .1) in
     inv .2 ∙ ap (λ (l : List ℕ). replicate i 0 ++ l) (drop-of-length-le xs₀ {i = i} (omega arith)) ∙ append-nil (replicate i 0) ∙ ap (λ (k : ℕ). replicate k 0) q
-
-pub slices-same : {vs ts es vs′ ts′ es′ : List ℕ} → vs ≡ vs′ → ts ≡ ts′ → es ≡ es′ → slices vs ts es ≡ slices vs′ ts′ es′
-slices-same p q r = λ i. slices (p i) (q i) (r i)
-
--- the part of a slice from c on was filled with zeros
-pub zeros-from : (c : ℕ) (xs ys : List ℕ) → ys ≡ replicate (length (midOf c (length xs - c) xs)) 0 → putMid c (length xs - c) xs ys ≡ take c xs ++ replicate (length xs - c) 0
-zeros-from c xs ys q =
-    let n = mid-len c (length xs) xs (omega arith) in
-    let z : drop (length xs - c) (drop c xs) ≡ [] = drop-of-length-le (drop c xs) {i = length xs - c} (omega (arith, length-drop c xs)) in
-    ap (λ (l : List ℕ). take c xs ++ (ys ++ l)) z ∙ ap (λ (l : List ℕ). take c xs ++ l) (append-nil ys ∙ q ∙ ap (λ (k : ℕ). replicate k 0) n)
 
 -- filled up to n
 pub zeros-upto : (i n : ℕ) (xs₀ xs : List ℕ) → i ≤ n → n ≤ i → Filled xs₀ i xs → xs ≡ replicate n 0 ++ drop n xs₀
