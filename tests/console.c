@@ -360,24 +360,35 @@ static void call_variable(char *at)
     print_appended(answer, row, new_count);
 }
 
-static void call_sum(char *at)
+/* A call on two numbers that may append: sum, product, normal form. */
+typedef uint32_t on_two(size_t n, uint16_t *var, size_t var_length, uint16_t *then,
+                        size_t then_length, uint16_t *els, size_t els_length, size_t count,
+                        uint64_t *work, size_t work_length, mg_row first, mg_row second,
+                        mg_row *row, size_t *new_count);
+
+static void call_on_two(on_two *call, char *at)
 {
     mg_row row = {(uint16_t)UNWRITTEN};
     size_t new_count = UNWRITTEN;
-    mg_row f = next_row(&at);
-    mg_row g = next_row(&at);
-    uint32_t answer = mg_sum(TABLE, f, g, &row, &new_count);
+    mg_row first = next_row(&at);
+    mg_row second = next_row(&at);
+    uint32_t answer = call(TABLE, first, second, &row, &new_count);
     print_appended(answer, row, new_count);
+}
+
+static void call_sum(char *at)
+{
+    call_on_two(mg_sum, at);
 }
 
 static void call_product(char *at)
 {
-    mg_row row = {(uint16_t)UNWRITTEN};
-    size_t new_count = UNWRITTEN;
-    mg_row f = next_row(&at);
-    mg_row g = next_row(&at);
-    uint32_t answer = mg_product(TABLE, f, g, &row, &new_count);
-    print_appended(answer, row, new_count);
+    call_on_two(mg_product, at);
+}
+
+static void call_normal_form(char *at)
+{
+    call_on_two(mg_normal_form, at);
 }
 
 static void call_equation(char *at)
@@ -388,16 +399,6 @@ static void call_equation(char *at)
     mg_row system = next_row(&at);
     mg_row tail = next_row(&at);
     uint32_t answer = mg_equation(TABLE, lead, system, tail, &row, &new_count);
-    print_appended(answer, row, new_count);
-}
-
-static void call_normal_form(char *at)
-{
-    mg_row row = {(uint16_t)UNWRITTEN};
-    size_t new_count = UNWRITTEN;
-    mg_row p = next_row(&at);
-    mg_row system = next_row(&at);
-    uint32_t answer = mg_normal_form(TABLE, p, system, &row, &new_count);
     print_appended(answer, row, new_count);
 }
 
