@@ -1,7 +1,7 @@
 #!/usr/bin/env bash
 # The examples: every examples/NAME.out is held to the plain evaluation of all patterns, to the second program and to the circuit program.
 # Then refused texts, texts without outputs and other bounds of what is printed, with answers written by hand.
-# Then the programs examples/tie.c and examples/tie.rs, which check one tie through the library.
+# Then how the command ends where something cannot be read or written. Then the programs examples/tie.c and examples/tie.rs, which check one tie through the library.
 set -u
 cd "$(dirname "$0")/.." || exit 2
 source tests/counting
@@ -15,22 +15,10 @@ prints() {
     "$@" <"$text" >"$made/printed" && cmp "$made/printed" "$out"
 }
 
-# circuit: the circuit program. It is compiled for x86-64; on another processor the toolchain has an emulator.
-program=target/bin/mullagrane
-circuit() {
-    local machine tools
-    machine=$(uname -m)
-    if [ "$machine" = x86_64 ]; then
-        "$program"
-    else
-        tools=$(dirname "$(dirname "$(readlink -f "$(command -v rt)")")")/on/$machine/toolchain
-        "$tools/bin/qemu-x86_64" "$tools/lib/ld-linux-x86-64.so.2" --library-path "$tools/lib" "$program"
-    fi
-}
-
 (cd tests/second && cargo build --release --offline --quiet) || failed=$((failed + 1))
 second=tests/second/target/release/second
-what "$program is not built" [ -x "$program" ]
+program=./mullagrane
+[ -x target/bin/mullagrane ] || { echo "examples: the circuit program is not built" && echo "$passed passed, $((failed + 1)) failed" && exit 1; }
 
 for text in examples/*.aag; do
     out=${text%.aag}.out
@@ -40,12 +28,12 @@ for text in examples/*.aag; do
         what "$out is not the plain evaluation" [ "$status" -eq 0 ]
     fi
     what "$out is not what the second program prints" prints "$out" "$text" "$second" verdicts
-    what "$out is not what $program prints" prints "$out" "$text" circuit
+    what "$out is not what $program prints" prints "$out" "$text" "$program"
 done
 
 # both NAME: the text in $made/text is printed as $made/expected by the circuit program and by the second program
 both() {
-    what "$1: $program prints something else" prints "$made/expected" "$made/text" circuit
+    what "$1: $program prints something else" prints "$made/expected" "$made/text" "$program"
     what "$1: the second program prints something else" prints "$made/expected" "$made/text" "$second" verdicts
 }
 
@@ -89,6 +77,21 @@ text 'the constants' 'aag 0 0 0 2 0\n1\n0\n' '1\nb0\n\n\n.\n0\nb1\n.\n'
 { echo aag 0 0 0 1024 0 && printf '0\n%.0s' {1..1024}; } >"$made/text"
 printf '0\nb%d\n.\n' {0..1023} >"$made/expected"
 both '1,024 outputs'
+
+# ends STATUS COMMAND..: with which status a command ends
+ends() {
+    local status=$1
+    shift
+    "$@" >"$made/printed"
+    [ $? -eq "$status" ]
+}
+on_full_disk() { "$@" >/dev/full; }
+what "a file that is not there is not told" ends 2 "$program" "$made/none"
+what "a folder is taken for a text" ends 2 "$program" examples
+what "a second file is passed over" ends 2 "$program" examples/paper.aag examples/adder.aag
+what "a file is not read as standard input is" ends 0 "$program" examples/paper.aag
+what "a file is not printed as standard input is" cmp "$made/printed" examples/paper.out
+what "what could not be written is not told" ends 1 on_full_disk "$program" examples/paper.aag
 
 # tied PROGRAM NAME: the exit status is the verdict that examples/NAME.out has for output 0, and what is printed by input is its pattern
 tied() {

@@ -18,7 +18,6 @@ use Rattle.table.specs.Index.{Indexed}
 use Rattle.table.specs.Inner.{Entered, Kept}
 use Rattle.table.specs.Memory.{Live}
 use Rattle.table.proofs.Takes.{taken-rows}
-use Rattle.sums.specs.Inner.{Pair}
 use Rattle.sums.proofs.Keeping.{kept-by, kept-nothing, kept-full, kept-then, kept-made}
 use Rattle.aiger.specs.Form.{Gate}
 use Rattle.aiger.specs.Meaning.{literal}
@@ -62,11 +61,7 @@ module _ (N c : ℕ) (s : Slices) (work : List ℕ) (l : ℕ) where
       kept-by q (kept-made (a .live) e (keeps-make (N - l / 2) 1 (l % 2) (rows-of s c)) (rw q at (literal-right (a .live) 0 (a .low) (omega arith) .sound)))
 
 -- the product of the rights, and the equation
-
 module _ (N c : ℕ) (s : Slices) (work : List ℕ) (l F f h : ℕ) (a : JoinedAsked N c s work l F f h) where
-  pub joined-asks : Pair N c s work f h
-  joined-asks = record { live = a .live; left = a .first .used; right = a .second .used }
-
   pub joined-full : {s₁ : Slices} {work₁ : List ℕ} → Kept N (product N f h) Full c s s₁ work work₁ → Kept N (joined-steps N l F f h) Full c s s₁ work work₁
   joined-full k = kept-full (equation (N - l / 2) F) (keeps-make (N - l / 2) F) k
 
