@@ -90,8 +90,8 @@ struct engine {
 /* Works up to `runs` times, for about a second at most; gives the best time. */
 static inline double best_time(long runs, struct engine engine, const char *text, size_t length, char *verdicts)
 {
-    double best = 1e30, total = 0;
-    for (; runs > 0 && total < 1e6; runs--) {
+    double best = 1e30, began = microseconds();
+    for (; runs > 0 && microseconds() - began < 1e6; runs--) {
         if (engine.begin)
             engine.begin(text);
         double start = microseconds();
@@ -99,7 +99,6 @@ static inline double best_time(long runs, struct engine engine, const char *text
         double took = microseconds() - start;
         if (engine.end)
             engine.end();
-        total += took;
         if (took < best)
             best = took;
     }

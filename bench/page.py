@@ -83,8 +83,8 @@ what they do after that is in the second table.
 INSIDE = """\
 ## In one process
 
-The same work many times in one process. For BRiAl and BuDDy, making ring or tables is not counted; Mullagrane's calls clear what they use, and
-this is. Its library is called for each output by itself and builds the equations anew for each; BRiAl and BuDDy build them once for all outputs. For ABC: what
+The same work in one process, as often as it can be done in a second; the best time counts. For BRiAl and BuDDy, making ring or tables is not counted;
+Mullagrane's calls clear what they use, and this is. Its library is called for each output by itself and builds the equations anew for each; BRiAl and BuDDy build them once for all outputs. For ABC: what
 each of 20 further repetitions adds; the cell is empty where they took no longer than one, or too long. The SAT solvers have no such time here.
 """
 
