@@ -22,9 +22,8 @@ use Rattle.table.specs.Lent.{room, Lent}
 use Rattle.steps.specs.Rows.{none, next}
 use Rattle.steps.specs.Steps.{Answer as StepsAnswer, answer}
 use Rattle.steps.proofs.Table.{rows-of-next, rows-of-none}
-use Rattle.table.proofs.Ends.{taken-lends}
 use Rattle.checks.proofs.Endings.{fine-live}
-use Rattle.table.proofs.Takes.{taken-rows, taken-lent}
+use Rattle.table.proofs.Takes.{taken-rows, taken-lent, taken-lends}
 use Rattle.reduction.specs.Inner.{Took}
 use Rattle.aiger.specs.Answers.{Slices as NetSlices, Lent as NetLent, gatesOf, sizesOf, netIn, NetGot, Limited, numberOfRefusal}
 use Rattle.aiger.specs.Net.{Net, circuit}

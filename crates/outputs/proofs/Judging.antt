@@ -23,8 +23,7 @@ use Rattle.checks.specs.Checks.{Checked}
 use Rattle.table.specs.Inner.{Taken, Kept}
 use Rattle.table.specs.Lent.{room, Lent}
 use Rattle.table.specs.Memory.{Live}
-use Rattle.table.proofs.Ends.{taken-lends}
-use Rattle.table.proofs.Takes.{taken-rows, taken-full}
+use Rattle.table.proofs.Takes.{taken-rows, taken-full, taken-lends}
 use Rattle.leads.specs.Inner.{System}
 use Rattle.aiger.specs.Answers.{Slices as NetSlices, gatesOf, sizesOf, netIn}
 use Rattle.aiger.specs.Net.{Net}

@@ -53,7 +53,3 @@ taken-ends {m} {r} {c} {s} {s′} l d = ap (λ (x : Ending). end-in x c s) (d .i
         let t = freed-same c s s′ (λ r. r .then-part) (s .thens) (s′ .thens) (λ k. refl) (λ k. refl) (omega (arith, l .used, l .thens)) (d .thens) (d .kept) in
         let e = freed-same c s s′ (λ r. r .else-part) (s .elses) (s′ .elses) (λ k. refl) (λ k. refl) (omega (arith, l .used, l .elses)) (d .elses) (d .kept) in
         λ i. left (Refused 7) (slices (sym v i) (sym t i) (sym e i))
-
--- the slices are lent still, also where room has run out
-pub taken-lends : {m : Steps} {r : Made} {c : ℕ} {s s′ : Slices} → Lent c s → Taken m r c s s′ → Lent c s′
-taken-lends l d = record { used = omega (arith, l .used, d .vars); small = omega (arith, l .small, d .vars); thens = d .thens ∙ l .thens ∙ sym (d .vars); elses = d .elses ∙ l .elses ∙ sym (d .vars) }

@@ -34,9 +34,15 @@ taken-nothing {m} {k} {c} {s} h p = record {
   rest = record { more = omega arith; fits = h; vars = refl; thens = refl; elses = refl };
 }
 
--- the table is still one of three slices
+-- the table is still one of three slices: with the rows that it then has, and, also where room has run out, with those that it had
+lent-with : {m : Steps} {r : Made} {c : ℕ} {s s′ : Slices} (n : ℕ) → n ≤ room s → Lent c s → Taken m r c s s′ → Lent n s′
+lent-with n h l d = record { used = omega (arith, d .vars); small = omega (arith, l .small, d .vars); thens = d .thens ∙ l .thens ∙ sym (d .vars); elses = d .elses ∙ l .elses ∙ sym (d .vars) }
+
 pub taken-lent : {m : Steps} {k : Row} {c n : ℕ} {s s′ : Slices} → Lent c s → Taken m (At k n) c s s′ → Lent n s′
-taken-lent l d = record { used = omega (arith, d .rest .fits, d .vars); small = omega (arith, l .small, d .vars); thens = d .thens ∙ l .thens ∙ sym (d .vars); elses = d .elses ∙ l .elses ∙ sym (d .vars) }
+taken-lent {n = n} l d = lent-with n (d .rest .fits) l d
+
+pub taken-lends : {m : Steps} {r : Made} {c : ℕ} {s s′ : Slices} → Lent c s → Taken m r c s s′ → Lent c s′
+taken-lends {c = c} l d = lent-with c (l .used) l d
 
 -- what the rows in use then are
 pub taken-rows : {m : Steps} {k : Row} {c n : ℕ} {s s′ : Slices} → Taken m (At k n) c s s′ → m (rows-of s c) ≡ answer (k .0) (rows-of s′ n)

@@ -1,6 +1,6 @@
 use native.Mathlib.Omega.{arith}
 use borrow.Author.Needs.{needs}
-use Rattle.table.proofs.Ends.{taken-lends}
+use Rattle.table.proofs.Takes.{taken-lends}
 use Rattle.normal.proofs.CallLaws.{number-out, system-out, system-0, lead-out, system-behind, tail-behind, equation-done}
 use borrow.Author.Needs.{needs}
 use Rattle.normal.proofs.equation_ready.Statement.{statement}

@@ -1,6 +1,7 @@
 use mathlib.Core.Path.{_∙_}
 use borrow.Author.Tests.{lt-ltb, le-ltb}
-use Rattle.table.proofs.Ends.{taken-ends, taken-lends}
+use Rattle.table.proofs.Ends.{taken-ends}
+use Rattle.table.proofs.Takes.{taken-lends}
 use borrow.Author.Needs.{needs}
 use Rattle.numbers.proofs.variable_ready.Statement.{statement}
 use Rattle.numbers.proofs.variable_ready.Tie as tie

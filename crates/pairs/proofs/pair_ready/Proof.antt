@@ -1,6 +1,6 @@
 use Rattle.pairs.specs.Calls.{steps-of, op-of}
 use native.Mathlib.Omega.{arith}
-use Rattle.table.proofs.Ends.{taken-lends}
+use Rattle.table.proofs.Takes.{taken-lends}
 use Rattle.pairs.proofs.PairCalls.{left-out, right-out, pair-done, operation-law}
 use borrow.Author.Needs.{needs}
 use Rattle.pairs.proofs.pair_ready.Statement.{statement}
