@@ -13,13 +13,13 @@
 #include "mg.h"
 #include <string.h>
 
-enum { ROWS = 8192, PARTS = 1 << 16 };
+enum { ROWS = 8192, WORK = 25600, PARTS = 1 << 16 };
 
 typedef uint32_t call(size_t, uint16_t *, size_t, uint16_t *, size_t, uint16_t *, size_t, size_t, uint64_t *, size_t, mg_row, mg_row,
                       mg_row *, size_t *);
 
 static uint16_t var[ROWS], then[ROWS], els[ROWS];
-static uint64_t work[1]; /* none of it is lent */
+static uint64_t work[WORK];
 static size_t variables, count, new_count;
 static call *asked;
 static mg_row f, g;
@@ -96,7 +96,7 @@ static void work_once(const char *text, size_t length, char *verdicts)
 {
     (void)text, (void)length, (void)verdicts;
     mg_row made;
-    if (asked(variables, var, ROWS, then, ROWS, els, ROWS, count, work, 0, f, g, &made, &new_count) != 0)
+    if (asked(variables, var, ROWS, then, ROWS, els, ROWS, count, work, WORK, f, g, &made, &new_count) != 0)
         stop("refused");
 }
 

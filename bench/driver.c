@@ -1,15 +1,14 @@
 /*
- * driver FILE RUNS [WORDS]: the library, called in-process for every output, with a table of 4,096 rows as in the circuit program and a
- * working slice of so many words, 0 where nothing is said. Buffers are lent once; the calls clear what they need.
+ * driver FILE RUNS: the library, called in-process for every output, with a table of 4,096 rows as in the circuit program.
+ * Buffers are lent once; the calls clear what they need.
  */
 #include "bench.h"
 #include "mg.h"
 
-enum { ROWS = 4096, WORK = 1 << 22 };
+enum { ROWS = 4096, WORK = 25600 };
 
 static uint16_t var[ROWS], then[ROWS], els[ROWS];
 static uint64_t work[WORK];
-static size_t lent;
 static uint8_t pattern[MAX_VARIABLES];
 static size_t rows[MAX_VARIABLES], inputs, outputs;
 static char patterns[MAX_VARIABLES][MAX_VARIABLES + 1];
@@ -21,7 +20,7 @@ static void all_outputs(const char *text, size_t length, char *verdicts)
         stop("refused");
     for (size_t k = 0; k < outputs; k++) {
         uint32_t verdict;
-        if (mg_circuit(bytes, length, var, ROWS, then, ROWS, els, ROWS, work, lent, k, pattern, inputs, &verdict,
+        if (mg_circuit(bytes, length, var, ROWS, then, ROWS, els, ROWS, work, WORK, k, pattern, inputs, &verdict,
                        &rows[k]) != 0)
             stop("refused");
         verdicts[k] = (char)('0' + verdict);
@@ -33,12 +32,6 @@ static void all_outputs(const char *text, size_t length, char *verdicts)
 
 int main(int words, char **word)
 {
-    if (words == 4) {
-        lent = strtoul(word[3], NULL, 10);
-        words = 3;
-    }
-    if (lent > WORK)
-        stop("too many words");
     run(words, word, (struct engine){ .work = all_outputs });
     size_t most = 0;
     for (size_t k = 0; k < outputs; k++)

@@ -125,9 +125,9 @@ def profile(out, symbols, *command):
     return found
 
 
-def best(goes, *command, words=()):
-    """The best time of some processes, each with many runs, in microseconds; and what they print besides. `words` follow the number of runs."""
-    said = [subprocess.run([*command, str(RUNS), *words], check=True, capture_output=True, text=True).stdout for _ in range(goes)]
+def best(goes, *command):
+    """The best time of some processes, each with many runs, in microseconds; and what they print besides."""
+    said = [subprocess.run([*command, str(RUNS)], check=True, capture_output=True, text=True).stdout for _ in range(goes)]
     times, others = zip(*(re.match(r"(.*)^microseconds (\S+)$", words, re.M | re.S).group(2, 1) for words in said))
     return min(map(float, times)), dict(line.split() for line in others[0].splitlines())
 

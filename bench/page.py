@@ -3,7 +3,6 @@
 import math
 import re
 
-import lengths
 from operations import PARTS, STEPS
 
 OTHERS = ["BRiAl", "BuDDy", "ABC sat", "ABC cec", "CaDiCaL", "MiniSat", "plain"]
@@ -184,23 +183,7 @@ def operations(found):
     return joined([*parts, slow(found, working)])
 
 
-SLICES = """\
-## By the length of the working slice
-
-The library in one process, as above, in microseconds, by the number of words that are lent for work. A call works in them where there are enough, else in an array of its own; it zeros them all
-in the end, which is what a longer slice costs. The last four are calls that once took seconds or minutes (`tests/slow`): two products in a table, and 'is a number of 12 bits, of 14 bits divisible by 9' in a table of 8,192 rows.
-"""
-
-
-def slices(found):
-    """The section on working slices; nothing where the library is not built."""
-    if not found:
-        return ""
-    head = ["block", *(f"{length:,}" for length in lengths.LENGTHS)]
-    return joined([SLICES, lines_of(head, [[name, *map(shown, times)] for name, times in found])])
-
-
-def text(rows, about, found, working, options):
+def text(rows, about, found, options):
     own = "the circuit program `target/bin/mullagrane`, and in one process the library `libmg.a`, with a table of 4,096 rows."
     if not options.native:
         own = (
@@ -211,8 +194,8 @@ def text(rows, about, found, working, options):
     parts = ["# Benchmarks", "Made by `bench/run`." + trial, "\n".join(f"- {line}" for line in about)]
     parts += ["![Rows and times against the number of variables](benchmarks.svg)", ABOUT.format(runs=options.runs, own=own)]
     parts += [WHOLE, times(rows, "whole", OTHERS), INSIDE, times(rows, "inside", ["BRiAl", "BuDDy", "ABC sat", "ABC cec", "plain"])]
-    parts += [slices(working), operations(found)]
-    return joined(part for part in parts if part) + "\n"
+    parts += [operations(found)]
+    return joined(parts) + "\n"
 
 
 # --- the plot -------------------------------------------------------------------------------------------------------------------

@@ -8,9 +8,9 @@
 
 #include "mg.h"
 
-enum { LONGEST = 32768, ROWS = 4096, WORK = 271360, MOST_INPUTS = 1024, NO_VERDICT = 3 };
+enum { LONGEST = 32768, ROWS = 4096, WORK = 32768, MOST_INPUTS = 1024, NO_VERDICT = 3 };
 
-/* What is lent to the call. A working slice of any length will do; in this one 2^18 results can be remembered, which helps where a circuit takes long. */
+/* What is lent to the call; a longer working slice only makes it faster. */
 static uint16_t var[ROWS], then[ROWS], els[ROWS];
 static uint64_t work[WORK];
 static uint8_t pattern[MOST_INPUTS];

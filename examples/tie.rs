@@ -15,7 +15,7 @@ extern "C" {
 }
 
 const ROWS: usize = 4096;
-const WORK: usize = 271360;
+const WORK: usize = 32768;
 const NO_VERDICT: u8 = 3;
 
 enum Verdict {
@@ -37,7 +37,7 @@ fn inputs(text: &[u8]) -> Result<usize, u32> {
 fn circuit(text: &[u8], output: usize) -> Result<Verdict, u32> {
     let mut pattern = vec![0; inputs(text)?];
     let [mut var, mut then, mut els] = [[0u16; ROWS]; 3];
-    let mut work = vec![0u64; WORK]; // any length will do; in this one 2^18 results can be remembered
+    let mut work = vec![0u64; WORK]; // a longer one only makes the call faster
     let (mut verdict, mut rows) = (0, 0);
     #[rustfmt::skip]
     let refusal = unsafe {

@@ -12,18 +12,13 @@
  *
  * The working slice may have any length, also 0, and hold anything. It is all
  * zeros after every call that takes one, refused or not, and no answer depends
- * on it. What to lend: nothing, as long as calls are quick. A call works in the
- * slice where it has at least 17,472 words for a table of up to 64 rows, 67,584
- * for one of up to 1,024 rows and 74,752 for a larger one, else in an array of
- * its own; a longer slice costs the time to zero it. What pays is a slice of
- * 271,360 words and more, up to 4,203,520, for circuits and products that take
- * long: then more results can be remembered. Time is measured and not proved.
+ * on it.
  *
  * A pointer must be valid for the length that follows it, and is not null even
  * where that length is 0. Lent slices and out-parameters do not overlap. Where
  * a call is refused, out-parameters keep what they held.
  *
- * Calls nest as deep as the ring has variables; 2 MB of stack is enough.
+ * Calls nest as deep as the ring has variables; 1 MB of stack is enough.
  *
  * The refusals:
  *    1  N, lengths or count out of range; assignment length not N

@@ -40,15 +40,11 @@
  * before the first 64 elements. `text same` says that the text is as it was.
  * `guard NAME touched` is printed where an element before or behind a slice was
  * written. `end NAME` ends a case.
- *
- * With the word --times each call's processor time is told on standard error:
- * `time CASE SECONDS`.
  */
 #include <inttypes.h>
 #include <stdio.h>
 #include <stdlib.h>
 #include <string.h>
-#include <time.h>
 
 #include "mg.h"
 
@@ -78,9 +74,6 @@ static struct slice pattern_slice = {"pattern", 1, 0, NULL};
 static struct slice text_slice = {"text", 1, 0, NULL};
 static size_t ring_size;
 static size_t row_count;
-static clock_t begun;
-static clock_t spent;
-static uint32_t returned;
 
 static void fail(const char *what, const char *detail)
 {
@@ -343,9 +336,6 @@ static void pad_text(size_t length, uint8_t byte)
 
 /* ---- calls ---- */
 
-/* A call of the library, with its processor time. */
-#define TIMED(call) (begun = clock(), returned = (call), spent = clock() - begun, returned)
-
 /* The parameters that every call on a table begins with. */
 #define TABLE                                                                                     \
     ring_size, elements_of(&var_slice), var_slice.length, elements_of(&then_slice),               \
@@ -366,7 +356,7 @@ static void call_variable(char *at)
     mg_row row = {(uint16_t)UNWRITTEN};
     size_t new_count = UNWRITTEN;
     mg_var v = next_var(&at);
-    uint32_t answer = TIMED(mg_variable(TABLE, v, &row, &new_count));
+    uint32_t answer = mg_variable(TABLE, v, &row, &new_count);
     print_appended(answer, row, new_count);
 }
 
@@ -382,7 +372,7 @@ static void call_on_two(on_two *call, char *at)
     size_t new_count = UNWRITTEN;
     mg_row first = next_row(&at);
     mg_row second = next_row(&at);
-    uint32_t answer = TIMED(call(TABLE, first, second, &row, &new_count));
+    uint32_t answer = call(TABLE, first, second, &row, &new_count);
     print_appended(answer, row, new_count);
 }
 
@@ -408,7 +398,7 @@ static void call_equation(char *at)
     mg_var lead = next_var(&at);
     mg_row system = next_row(&at);
     mg_row tail = next_row(&at);
-    uint32_t answer = TIMED(mg_equation(TABLE, lead, system, tail, &row, &new_count));
+    uint32_t answer = mg_equation(TABLE, lead, system, tail, &row, &new_count);
     print_appended(answer, row, new_count);
 }
 
@@ -416,8 +406,8 @@ static void call_value(char *at)
 {
     uint8_t value = (uint8_t)UNWRITTEN;
     mg_row f = next_row(&at);
-    uint32_t answer = TIMED(mg_value(TABLE, f, elements_of(&assignment_slice),
-                                     assignment_slice.length, &value));
+    uint32_t answer = mg_value(TABLE, f, elements_of(&assignment_slice), assignment_slice.length,
+                               &value);
     printf(" -> %" PRIu32 " value=%u\n", answer, (unsigned)value);
     print_table();
     print_slice(&assignment_slice);
@@ -426,8 +416,7 @@ static void call_value(char *at)
 static void call_one(char *at)
 {
     mg_row f = next_row(&at);
-    uint32_t answer =
-        TIMED(mg_one(TABLE, f, elements_of(&assignment_slice), assignment_slice.length));
+    uint32_t answer = mg_one(TABLE, f, elements_of(&assignment_slice), assignment_slice.length);
     printf(" -> %" PRIu32 "\n", answer);
     print_table();
     print_slice(&assignment_slice);
@@ -456,11 +445,11 @@ static void call_circuit(char *at)
     size_t output = next_number(&at);
     uint8_t *copy = copy_text();
     uint32_t answer =
-        TIMED(mg_circuit(elements_of(&text_slice), text_slice.length, elements_of(&var_slice),
-                         var_slice.length, elements_of(&then_slice), then_slice.length,
-                         elements_of(&else_slice), else_slice.length, elements_of(&work_slice),
-                         work_slice.length, output, elements_of(&pattern_slice),
-                         pattern_slice.length, &verdict, &rows));
+        mg_circuit(elements_of(&text_slice), text_slice.length, elements_of(&var_slice),
+                   var_slice.length, elements_of(&then_slice), then_slice.length,
+                   elements_of(&else_slice), else_slice.length, elements_of(&work_slice),
+                   work_slice.length, output, elements_of(&pattern_slice), pattern_slice.length,
+                   &verdict, &rows);
     printf(" -> %" PRIu32 " verdict=%" PRIu32 " rows=%zu\n", answer, verdict, rows);
     print_table();
     print_slice(&pattern_slice);
@@ -472,8 +461,7 @@ static void call_text(char *at)
     size_t inputs = UNWRITTEN;
     size_t outputs = UNWRITTEN;
     uint8_t *copy = copy_text();
-    uint32_t answer =
-        TIMED(mg_text(elements_of(&text_slice), text_slice.length, &inputs, &outputs));
+    uint32_t answer = mg_text(elements_of(&text_slice), text_slice.length, &inputs, &outputs);
     (void)at;
     printf(" -> %" PRIu32 " inputs=%zu outputs=%zu\n", answer, inputs, outputs);
     print_text(copy);
@@ -525,7 +513,7 @@ static void begin_case(void)
     row_count = 0;
 }
 
-static void obey(char *line, char *case_name, size_t name_room, int times)
+static void obey(char *line, char *case_name, size_t name_room)
 {
     char *at = line;
     const char *command = next_word(&at);
@@ -548,8 +536,6 @@ static void obey(char *line, char *case_name, size_t name_room, int times)
         pad_text(length, (uint8_t)next_number(&at));
     } else if (strcmp(command, "call") == 0) {
         make_call(at);
-        if (times)
-            fprintf(stderr, "time %s %.6f\n", case_name, (double)spent / CLOCKS_PER_SEC);
     } else if (strcmp(command, "end") == 0) {
         printf("end %s\n", case_name);
         fflush(stdout);
@@ -558,14 +544,13 @@ static void obey(char *line, char *case_name, size_t name_room, int times)
     }
 }
 
-int main(int words, char **word)
+int main(void)
 {
     char case_name[100] = "";
     char *line;
-    int times = words == 2 && strcmp(word[1], "--times") == 0;
     begin_case();
     while ((line = read_line()) != NULL)
-        obey(line, case_name, sizeof case_name, times);
+        obey(line, case_name, sizeof case_name);
     if (fflush(stdout) != 0 || ferror(stdout))
         fail("cannot write", "standard output");
     return 0;

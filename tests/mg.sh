@@ -47,15 +47,12 @@ what "the header takes no number for a variable" mixed_up
 what "the library" tests/library
 what "the console" tests/build-c tests/console.c "$room/console"
 
-# the header asks for 2 MB of stack, where the working slice is too short to be worked in, and where it is not
+# the header asks for 1 MB of stack
 deep() {
-    python3 tests/deep.py "$1" >"$room/deep.cases" || return
-    (ulimit -s 2048 && "$room/console" <"$room/deep.cases") >"$room/deep.found" || return
-    (cd tests/second && cargo build --release --offline --quiet) && tests/second/target/release/second answer <"$room/deep.cases" >"$room/deep.wanted" || return
-    ! grep '^call .* -> [1-9]' "$room/deep.wanted" && cmp "$room/deep.found" "$room/deep.wanted"
+    (ulimit -s 1024 && python3 tests/deep.py | "$room/console") >"$room/deep" || return
+    [ "$(grep -c '^call .* -> 0 ' "$room/deep")" -eq 2 ]
 }
-what "2 MB of stack are enough for the deepest calls without a working slice" deep 0
-what "2 MB of stack are enough for the deepest calls with 300,000 words" deep 300000
+what "1 MB of stack is enough for the deepest calls" deep
 
 # caught KIND TRUE FALSE: a console that gives one answer as another is found out
 caught() {

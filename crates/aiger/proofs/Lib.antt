@@ -13,4 +13,4 @@ pub mod LiteralLines
 pub mod GateLines
 pub mod KnownOutputs
 -- The printed run
-pub mod Printed
+mod Printed

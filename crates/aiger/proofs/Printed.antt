@@ -8,10 +8,10 @@ use Rattle.aiger.specs.Net.{got, defined, input_lines, output_lines, gate_lines,
 use Rattle.aiger.specs.Meaning.{feed, run, outputs}
 
 -- "aag 4 2 0 2 2", "2", "4", "8", "6", "6 2 5", "8 6 4"
-abbrev pub text : List ℕ
+abbrev text : List ℕ
 text = 97 ∷ 97 ∷ 103 ∷ 32 ∷ 52 ∷ 32 ∷ 50 ∷ 32 ∷ 48 ∷ 32 ∷ 50 ∷ 32 ∷ 50 ∷ 10 ∷ 50 ∷ 10 ∷ 52 ∷ 10 ∷ 56 ∷ 10 ∷ 54 ∷ 10 ∷ 54 ∷ 32 ∷ 50 ∷ 32 ∷ 53 ∷ 10 ∷ 56 ∷ 32 ∷ 54 ∷ 32 ∷ 52 ∷ 10 ∷ []
 
-abbrev pub printed : Net
+abbrev printed : Net
 printed = record {
   M = 4;
   inputs = 2 ∷ 4 ∷ [];
@@ -20,7 +20,7 @@ printed = record {
 }
 
 -- the text is accepted to its last byte
-pub reads : circuit text ≡ got printed []
+reads : circuit text ≡ got printed []
 unfolding circuit body digits zero_alone number space byte newline_left further line gate word five header defined input_lines output_lines gate_lines unknown_output
 reads = refl
 

@@ -2,9 +2,9 @@
 use Prim.Native.Nat.{ℕ}
 use mathlib.Core.Path.{◌≡◌, sym, ◌∙◌}
 use mathlib.Core.List.{List}
-use Rattle.aiger.specs.Answers.{ReadsText}
+use Rattle.aiger.specs.Answers.{text_call}
 use Rattle.aiger.specs.declared.Answer.{Answer}
 
--- "Uniqueness is proved: any two outcomes a contract allows coincide."
-pub text_unique : (text : List ℕ) {r r' : Answer} → ReadsText text r → ReadsText text r' → r ≡ r'
-text_unique text p q = p ∙ sym q
+-- any two answers that the contract of `text` allows for a text coincide
+pub unique : (s : List ℕ) (r r' : Answer) → r ≡ text_call s → r' ≡ text_call s → r ≡ r'
+unique s r r' p q = p ∙ sym q

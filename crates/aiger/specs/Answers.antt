@@ -41,10 +41,6 @@ answer_of (refused w) = Refused (number_of_refusal w)
 abbrev pub text_call : List ℕ → Answer
 text_call text = answer_of (circuit text)
 
--- THE CONTRACT OF THE TEXT CALL
-abbrev pub ReadsText : List ℕ → Answer → Type 0
-ReadsText text r = r ≡ text_call text
-
 -- what a read found
 
 abbrev pub step_of : List ℕ → Step → form.Read (Unit {0})

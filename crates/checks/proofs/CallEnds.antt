@@ -1,6 +1,6 @@
--- The ways out of a call that may append.
-use Prim.Native.Nat.{ℕ}
-use mathlib.Core.Path.{◌≡◌, ap, subst, ◌∙◌}
+-- The ways out of a call that may append, and that it allows one outcome.
+use Prim.Native.Nat.{ℕ, ◌≤◌}
+use mathlib.Core.Path.{◌≡◌, sym, ap, subst, ◌∙◌}
 use mathlib.Core.List.{List}
 use Rattle.steps.specs.Sound.{sound}
 use Rattle.steps.specs.Table.{Slices, rows_of}
@@ -17,6 +17,7 @@ use Rattle.table.specs.Inner.{Taken}
 use Rattle.checks.specs.Checks.{Checked}
 use Rattle.table.specs.Calls.{in_range, Left, left, refuse, take_steps, checked, finished, IfMade, Does}
 use Rattle.table.proofs.Takes.{taken_rows}
+use Rattle.checks.proofs.Checking.{in_range_vars}
 use Rattle.table.proofs.Ends.{taken_ends}
 use Rattle.checks.proofs.Endings.{call_range, call_unsound, call_fine}
 
@@ -42,3 +43,10 @@ module _ (Meant : ℕ → ℕ → Slices → Type 0) where
 
     pub does_fine : t ≡ Fine → {r : Answer} {s' : Slices} → Does Meant done r s' → Does Meant call r s'
     does_fine q a = record { is = call_fine N c s call done e d q a.is; means = a.means }
+
+pub fine_vars : {N c : ℕ} {s : Slices} {work : List ℕ} {t : Table} → Checked t N c s work → t ≡ Fine → N ≤ 1024
+fine_vars {N} {c} {s} {work} d q = in_range_vars N c s (subst (λ (t : Table). Checked t N c s work) q d).finding.0
+
+-- "Uniqueness is proved: any two outcomes a contract allows coincide."
+pub does_unique : (Meant : ℕ → ℕ → Slices → Type 0) (call : Left) (r r' : Answer) (t t' : Slices) → Does Meant call r t → Does Meant call r' t' → left r t ≡ left r' t'
+does_unique Meant call r r' t t' p q = sym p.is ∙ q.is

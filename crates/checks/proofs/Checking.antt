@@ -2,10 +2,10 @@
 use Prim.Native.Nat.{ℕ, suc, ◌+◌, ◌/◌, ◌<◌, ◌≤◌}
 use mathlib.Core.Path.{◌≡◌, refl, sym, ap, subst, ◌∙◌}
 use mathlib.Core.Bool.{Bool, true, false, ◌&&◌}
-use mathlib.Core.List.{List}
+use mathlib.Core.List.{List, ◌++◌}
 use native.Mathlib.Omega.{arith}
 use native.Mathlib.Numerals.{add-one}
-use lib.ListN.{length}
+use lib.ListN.{length, get_or, drop, replicate, length-append, length-replicate, length-drop, get_or-replicate, get_or-append}
 use Rattle.steps.specs.Rows.{Row, row_of, Rows, count, row, find}
 use Rattle.steps.specs.Sound.{sound, fits}
 use Rattle.steps.specs.Table.{Slices, row_at, rows_of}
@@ -19,13 +19,26 @@ use Rattle.table.specs.Inner.{number_of, Some, Finds}
 use Rattle.steps.proofs.Sound.{fits_true, sound_true, sound_part}
 use Rattle.steps.proofs.Table.{rows_of_count, rows_of_next, rows_of_part}
 use Rattle.table.specs.Lent.{room, Lent, Stands}
-use Rattle.table.specs.Index.{index_size, Followed, Apart, Indexed, Belongs, link, Linkable, Front}
-use Rattle.zeros.specs.Zeroed.{Zeroed}
+use Rattle.table.specs.Index.{index_words, Followed, Apart, Indexed, enter, Linkable, Front}
+use Rattle.table.specs.Memory.{reach}
 use Rattle.table.specs.Calls.{in_range}
 use Rattle.checks.specs.declared.check.Table.TheVariants.{Fine, Unsound}
-use Rattle.checks.specs.Checks.{parts_fit, RowNext, Prepared, SoundChecked, Checked}
+use Rattle.checks.specs.Checks.{parts_fit, RowNext, Zeroed, Prepared, SoundChecked, Checked}
 use Rattle.table.proofs.Buckets.{newest_none}
-use Rattle.table.proofs.Links.{linkable, link_front, linked_chains, front_refl, front_trans}
+use Rattle.table.proofs.Links.{linkable, enter_front, enter_chains, front_refl, front_trans, behind_word}
+use Rattle.table.proofs.Words.{reach_fits, reach_after, words_none}
+
+-- the words that are used were zeroed
+module _ (R : ℕ) (work work' : List ℕ) (n : ℕ) (q : reach R (length work) ≡ n) (e : work' ≡ replicate n 0 ++ drop n work) where
+  pub zeroed_length : length work' ≡ length work
+  zeroed_length = ap length e ∙ length-append (replicate n 0) (drop n work) ∙ omega (arith, length-replicate {A = ℕ} n 0, length-drop n work, reach_fits R (length work))
+
+  pub zeroed : Zeroed R work'
+  zeroed = record {
+    zeros = λ i h.
+        let l : i < n = omega (arith, rw zeroed_length at h) in
+        ap (λ (x : List ℕ). get_or x i 0) e ∙ get_or-append (replicate n 0) (drop n work) 0 i (omega (arith, length-replicate {A = ℕ} n 0)) ∙ get_or-replicate n i 0 0 l;
+  }
 
 -- the first i rows are sound and indexed
 pub record Checking (N c i : ℕ) (s : Slices) (work₀ work : List ℕ) : Type 0 where
@@ -46,8 +59,7 @@ module _ (N c : ℕ) (s : Slices) (work₀ : List ℕ) (p : Prepared c s work₀
     indexed = record {
       lent = lent_part 0 (omega arith);
       apart = tt;
-      fits = p.fits;
-      chains = record { heads = λ b l. ap (λ (w : ℕ). w / 65536) (p.zeros b l) ∙ sym (newest_none (index_size (room s)) b); follows = tt };
+      chains = λ h. record { heads = λ b l. ap (λ (w : ℕ). w / 65536) (p.zeroed.zeros b (omega (arith, reach_after (room s) (length work₀)))) ∙ sym (newest_none (index_words (room s) (length work₀)) b); follows = tt };
     };
     front = front_refl (room s) work₀;
   }
@@ -56,7 +68,15 @@ module _ (N c : ℕ) (s : Slices) (work₀ : List ℕ) (p : Prepared c s work₀
     pub checking_end : c ≤ i → SoundChecked true N c s work
     checking_end h =
         let q : i ≡ c = omega (arith, k.upto) in
-        record { is = rw q at k.so_far; indexed = λ z. rw q at k.indexed }
+        record {
+          is = rw q at k.so_far;
+          live = λ z. record {
+            sound = sound_true N (rows_of s c) (rw q at k.so_far);
+            indexed = rw q at k.indexed;
+            words = rw k.front.same_length (words_none N (index_words (room s) (length work₀)) (reach (room s) (length work₀)) (rows_of s c) work (λ j l b.
+                behind_word (index_words (room s) (length work₀)) work₀ work k.front.rest j l ∙ p.zeroed.zeros j b));
+          };
+        }
 
     module _ (h : i < c) where
       pub checking_next : RowNext i s work
@@ -65,13 +85,19 @@ module _ (N c : ℕ) (s : Slices) (work₀ : List ℕ) (p : Prepared c s work₀
       pub checking_stands : Stands i s
       checking_stands = record { in_vars = omega (arith, p.lent.used); in_thens = omega (arith, p.lent.used, p.lent.thens); in_elses = omega (arith, p.lent.used, p.lent.elses) }
 
-      free : count (rows_of s i) < room s
-      free = omega (arith, rows_of_count s i, p.lent.used)
+      -- the index has as many words as at first
+      module _ (H : ℕ) (z : index_words (room s) (length work₀) ≡ H) where
+        pub checking_words : index_words (room s) (length work) ≡ H
+        checking_words = rw k.front.same_length z
+
+        pub checking_linkable : Linkable H i work
+        checking_linkable =
+            rw (rows_of_count s i, checking_words) at (linkable (room s) work (rows_of s i) p.lent.small (omega (arith, rows_of_count s i, p.lent.used)) k.indexed.chains)
 
       -- an unsound row makes the table unsound
       not_sound : fits N (rows_of s i) (row_at s i) ≡ false → SoundChecked false N c s work
       unfolding rows_of sound
-      not_sound f = record { is = go (sound N (rows_of s c)) refl; indexed = λ z. absurd (let y : ◌≡◌ {A = ℕ} 0 1 = cc in omega arith) }
+      not_sound f = record { is = go (sound N (rows_of s c)) refl; live = λ z. absurd (let y : ◌≡◌ {A = ℕ} 0 1 = cc in omega arith) }
         where
           go : (b : Bool) → sound N (rows_of s c) ≡ b → b ≡ false
           go false e = refl
@@ -80,30 +106,29 @@ module _ (N c : ℕ) (s : Slices) (work₀ : List ℕ) (p : Prepared c s work₀
               let b : sound N (rows_of s (suc i)) ≡ false = rw (k.so_far, f) in
               absurd (let y : ◌≡◌ {A = ℕ} 0 1 = cc in omega arith)
 
+      one_more : (work' : List ℕ) → fits N (rows_of s i) (row_at s i) ≡ true → enter (index_words (room s) (length work)) i (row_at s i) work ≡ work' → Checking N c (i + 1) s work₀ work'
+      unfolding rows_of sound Apart
+      one_more work' f e =
+          let small = p.lent.small in
+          let free : count (rows_of s i) < room s = omega (arith, rows_of_count s i, p.lent.used) in
+          record {
+            upto = omega arith;
+            so_far = rw (add-one i, k.so_far) f;
+            indexed = record {
+              lent = lent_part (i + 1) (omega arith);
+              apart = rw (add-one i) (k.indexed.apart, (fits_true N (rows_of s i) (row_at s i) f).new);
+              chains = rw (add-one i) (rw (rows_of_count s i, e) at (enter_chains (room s) work (rows_of s i) small free k.indexed.chains (row_at s i)));
+            };
+            front = front_trans k.front (rw (rows_of_count s i, e) at (enter_front (room s) work (rows_of s i) small free k.indexed.chains (row_at s i)));
+          }
+
       -- the row, which was read as x
       module _ (x : Row) (e : row_at s i ≡ x) where
         pub checking_fails : fits N (rows_of s i) x ≡ false → SoundChecked false N c s work
         checking_fails f = not_sound (ap (fits N (rows_of s i)) e ∙ f)
 
-        module _ (b : ℕ) (q : Belongs (room s) x b) where
-          pub checking_linkable : Linkable b i work
-          checking_linkable = rw (rows_of_count s i) at (linkable (room s) work (rows_of s i) p.lent.small free k.indexed.fits k.indexed.chains x b q.is)
-
-          pub checking_again : (work' : List ℕ) → fits N (rows_of s i) x ≡ true → link b i work ≡ work' → Checking N c (i + 1) s work₀ work'
-          unfolding rows_of sound Apart
-          checking_again work' f w =
-              let front = rw (rows_of_count s i, w) at (link_front (room s) work (rows_of s i) p.lent.small free k.indexed.fits k.indexed.chains x b q.is) in
-              record {
-                upto = omega arith;
-                so_far = rw (add-one i, k.so_far, e) f;
-                indexed = record {
-                  lent = lent_part (i + 1) (omega arith);
-                  apart = rw (add-one i, e) (k.indexed.apart, (fits_true N (rows_of s i) x f).new);
-                  fits = omega (arith, k.indexed.fits, front.same_length);
-                  chains = rw (add-one i, e) (rw (rows_of_count s i, w) at (linked_chains (room s) work (rows_of s i) p.lent.small free k.indexed.fits k.indexed.chains x b q.is));
-                };
-                front = front_trans k.front front;
-              }
+        pub checking_again : (H : ℕ) → index_words (room s) (length work₀) ≡ H → (work' : List ℕ) → fits N (rows_of s i) x ≡ true → enter H i x work ≡ work' → Checking N c (i + 1) s work₀ work'
+        checking_again H z work' f q = one_more work' (ap (fits N (rows_of s i)) e ∙ f) (rw (checking_words H z, e) q)
 
 -- the ways out of the test of a row
 module _ (N : ℕ) (R : Rows) (x : Row) where
@@ -170,14 +195,7 @@ module _ (N c : ℕ) (s : Slices) (e : in_range N c s ≡ true) where
 
   module _ (work : List ℕ) (b : Bool) (k : SoundChecked b N c s work) where
     pub checked_fine : b ≡ true → Checked Fine N c s work
-    checked_fine q = record {
-      finding = (e, k.is ∙ q);
-      ready = record { few = in_range_vars; sound = sound_true N (rows_of s c) (k.is ∙ q); indexed = k.indexed q };
-    }
+    checked_fine q = record { finding = (e, k.is ∙ q); live = k.live q }
 
     pub checked_unsound : b ≡ false → Checked Unsound N c s work
-    checked_unsound q = record { finding = (e, k.is ∙ q); ready = tt }
-
-  -- the words of the index were zeroed
-  pub zeroed_prepared : (work work' : List ℕ) (H : ℕ) → index_size (room s) ≡ H → index_size (room s) ≤ length work → Zeroed 0 H work work' → Prepared c s work'
-  zeroed_prepared work work' H q f z = record { lent = in_range_lent; fits = omega (arith, z.same_length); zeros = rw q (λ i l. z.inside i (omega arith) l) }
+    checked_unsound q = record { finding = (e, k.is ∙ q); live = tt }

@@ -1,14 +1,15 @@
 // For the crates above: the checks that every call on a table makes first.
-ghost use Rattle.std.specs.Prelude.{◌≡◌, ◌≤◌, length};
+ghost use Rattle.std.specs.Prelude.{◌≡◌, ◌<◌, length};
 ghost use Rattle.steps.specs.Rows.{row_of};
 ghost use Rattle.steps.specs.Sound.{fits};
 ghost use Rattle.steps.specs.Table.{slices, rows_of};
 ghost use Rattle.table.specs.Lent.{Lent};
-ghost use Rattle.table.specs.Index.{index_size, Belongs};
+ghost use Rattle.table.specs.Index.{Belongs};
 ghost use Rattle.table.specs.Calls.{in_range};
-ghost use Rattle.checks.specs.Checks.{parts_fit, RowNext, Prepared, SoundChecked, Finding, Checked};
+ghost use Rattle.checks.specs.Checks.{parts_fit, RowNext, Prepared, SoundChecked, Checked};
 
-use table::index::{Found, bucket, enter, find, index_size};
+use table::index::{Found, bucket, enter, find, index_words};
+use table::memory::words_used;
 use table::rows::{Node, node_at, row_of};
 use zeros::zero_words;
 
@@ -63,7 +64,7 @@ fn parts_fit(vs: &[u16], ts: &[u16], es: &[u16], n: u16, i: usize, x: Node) -> b
     x.v.0 < e.v.0
 }
 
-// Whether row i, which is x and belongs in the bucket b, may stand after the i rows before it.
+// Whether row i, which is x and belongs in the bucket b of an index of h words, may stand after the i rows before it.
 fn row_fits(
     vs: &[u16],
     ts: &[u16],
@@ -71,17 +72,18 @@ fn row_fits(
     work: &[u64],
     n: u16,
     i: usize,
+    h: usize,
     b: usize,
     x: Node,
 ) -> bool
     requires row_next { RowNext i (slices vs.now ts.now es.now) work.now }
-    requires belongs { Belongs (length vs.now) (row_of x.v.0 x.t.0 x.e.0) b }
+    requires belongs { Belongs (length vs.now) (length work.now) (row_of x.v.0 x.t.0 x.e.0) h b }
     ensures { fits n (rows_of (slices vs.now ts.now es.now) i) (row_of x.v.0 x.t.0 x.e.0) ≡ result }
 {
     if !parts_fit(vs, ts, es, n, i, x) {
         return false;
     }
-    if let Found::At(_) = find(vs, ts, es, work, i, b, x) {
+    if let Found::At(_) = find(vs, ts, es, work, i, h, b, x) {
         return false;
     }
     true
@@ -92,57 +94,32 @@ fn rows_sound(vs: &[u16], ts: &[u16], es: &[u16], work: &mut [u64], n: u16, coun
     requires { Prepared count (slices vs.now ts.now es.now) work.old }
     ensures { SoundChecked result n count (slices vs.now ts.now es.now) work.new }
 {
+    let h = index_words(vs.len(), work.len());
     let mut i = 0;
     while i < count {
         let x = node_at(vs, ts, es, i);
-        let b = bucket(vs.len(), x);
-        if !row_fits(vs, ts, es, work, n, i, b, x) {
+        let b = bucket(h, x);
+        if !row_fits(vs, ts, es, work, n, i, h, b, x) {
             return false;
         }
-        enter(work, b, i);
+        enter(work, h, b, i);
         i += 1;
     }
     true
 }
 
-// The checks of every call on a table, in a working slice that has room for an index. Where they find nothing, it begins with the index of the rows.
+// The checks of every call on a table. Where they find nothing, the working slice is ready for the inner functions.
 pub fn check(n: usize, vs: &[u16], ts: &[u16], es: &[u16], count: usize, work: &mut [u64]) -> Table
-    requires { index_size (length vs.now) ≤ length work.old }
     ensures { Checked result n count (slices vs.now ts.now es.now) work.new }
 {
     if !in_range(n, vs, ts, es, count) {
         return Table::OutOfRange;
     }
-    let h = index_size(vs.len());
-    zero_words(work, 0, h);
+    let used = words_used(vs.len(), work.len());
+    zero_words(work, used);
     if rows_sound(vs, ts, es, work, n as u16, count) {
         Table::Fine
     } else {
         Table::Unsound
     }
-}
-
-// The same in an array of its own.
-fn check_apart(n: usize, vs: &[u16], ts: &[u16], es: &[u16], count: usize) -> Table
-    ensures { Finding result n count (slices vs.now ts.now es.now) }
-{
-    let mut own = [0u64; 8192];
-    check(n, vs, ts, es, count, &mut own)
-}
-
-// The checks of a call that needs no index after them, with any working slice.
-pub fn check_only(
-    n: usize,
-    vs: &[u16],
-    ts: &[u16],
-    es: &[u16],
-    count: usize,
-    work: &mut [u64],
-) -> Table
-    ensures { Finding result n count (slices vs.now ts.now es.now) }
-{
-    if work.len() < index_size(vs.len()) {
-        return check_apart(n, vs, ts, es, count);
-    }
-    check(n, vs, ts, es, count, work)
 }

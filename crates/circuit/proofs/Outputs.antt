@@ -17,14 +17,14 @@ use Rattle.circuit.specs.Inner.{OutputAsked}
 
 module _ (N : ℕ) (s : Slices) (work xs ys zs : List ℕ) (n l : ℕ) (a : OutputAsked N s work xs ys zs n l) where
   pub system_full : {s₁ : Slices} {work₁ : List ℕ} → Kept N (build N (gates_of n xs ys zs) 1) Full 0 s s₁ work work₁ → Took N (output_steps N (gates_of n xs ys zs) l) Full 0 s s₁ work work₁
-  system_full k = record { taken = gates.system_full N s work xs ys zs n a.build l a.low k; live = tt; same_length = k.carries.same_length }
+  system_full k = record { taken = gates.system_full N s work xs ys zs n a.build l a.low k; live = tt; same_length = k.behind.same_length }
 
   module _ (F : Row) (c : ℕ) (s₁ : Slices) (work₁ : List ℕ) (k : Kept N (build N (gates_of n xs ys zs) 1) (At F c) 0 s s₁ work work₁) where
     pub literal_asks : LiteralAsked N c s₁ work₁ l
     literal_asks = gates.output_asks N s work xs ys zs n a.build l a.low F c s₁ work₁ k
 
     pub literal_full : {s₂ : Slices} {work₂ : List ℕ} → Kept N (literal_steps N l) Full c s₁ s₂ work₁ work₂ → Took N (output_steps N (gates_of n xs ys zs) l) Full 0 s s₂ work work₂
-    literal_full d = record { taken = gates.output_full N s work xs ys zs n a.build l a.low F c s₁ work₁ k d; live = tt; same_length = d.carries.same_length ∙ k.carries.same_length }
+    literal_full d = record { taken = gates.output_full N s work xs ys zs n a.build l a.low F c s₁ work₁ k d; live = tt; same_length = d.behind.same_length ∙ k.behind.same_length }
 
     module _ (p : Row) (m : ℕ) (s₂ : Slices) (work₂ : List ℕ) (d : Kept N (literal_steps N l) (At p m) c s₁ s₂ work₁ work₂) where
       pub reduce_asks : Asked N m s₂ work₂ p.0 F.0
@@ -36,5 +36,5 @@ module _ (N : ℕ) (s : Slices) (work xs ys zs : List ℕ) (n l : ℕ) (a : Outp
       output_took t = record {
         taken = gates.output_done N s work xs ys zs n a.build l a.low F c s₁ work₁ k p m s₂ work₂ d t.taken;
         live = t.live;
-        same_length = t.same_length ∙ d.carries.same_length ∙ k.carries.same_length;
+        same_length = t.same_length ∙ d.behind.same_length ∙ k.behind.same_length;
       }

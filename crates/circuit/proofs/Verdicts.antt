@@ -19,13 +19,10 @@ use Rattle.table.specs.declared.make.Made.TheVariants.{At, Full}
 use Rattle.table.specs.Calls.{in_range}
 use Rattle.checks.specs.Checks.{Checked}
 use Rattle.table.specs.Lent.{room, Lent}
-use Rattle.table.specs.Index.{index_size}
-use Rattle.table.specs.Memory.{words_needed, Forgets}
-use Rattle.table.proofs.Words.{live_forgets}
 use Rattle.steps.specs.Rows.{none, next}
 use Rattle.steps.specs.Steps.{Answer as StepsAnswer, answer}
 use Rattle.steps.proofs.Table.{rows_of_next, rows_of_none}
-use Rattle.checks.proofs.Endings.{fine_ready}
+use Rattle.checks.proofs.Endings.{fine_live}
 use Rattle.table.proofs.Takes.{taken_rows, taken_lent, taken_lends}
 use Rattle.reduction.specs.Inner.{Took}
 use Rattle.aiger.specs.Answers.{Slices as NetSlices, Lent as NetLent, gates_of, sizes_of, net_in, NetGot, Limited, number_of_refusal}
@@ -40,16 +37,15 @@ use Rattle.verdicts.proofs.Building.{reduced}
 use Rattle.verdicts.proofs.Inputs.{output_low}
 use Rattle.verdicts.proofs.Outcomes.{call_lengths, call_read, judge_no_output, judge_no_pattern, judge_passes}
 use Rattle.steps.proofs.Bools.{both_true}
-use Rattle.verdicts.specs.Calls.{Answer, verdict_0, verdict_1, verdict_2, refusal, Left, left, lengths_fine, end_with, judge, circuit_call}
+use Rattle.verdicts.specs.Calls.{left, refusal, lengths_fine, end_with, judge, circuit_call}
 use Rattle.verdicts.specs.Systems.{output_steps}
 use Rattle.verdicts.specs.Verdicts.{verdict_of}
 use Rattle.verdicts.proofs.Endings.{ends_at_0, ends_at_1, ends_full}
 use Rattle.endings.specs.declared.Judged.{Judged}
-use Rattle.endings.specs.declared.Judged.TheVariants.{Never, Can, RoomOut, Refused}
+use Rattle.endings.specs.declared.Judged.TheVariants.{Refused}
 use Rattle.endings.specs.Answers.{answer_of_judged, Answered}
 use Rattle.endings.specs.Inner.{bytes_at, end_at, end_of, PatternIf, EndAsked}
 use Rattle.gates.specs.Inner.{NetAsked}
-use Rattle.circuit.specs.Calls.{Judges}
 use Rattle.circuit.specs.Inner.{OutputAsked, JudgeAsked, ReadyAsked}
 
 -- the lengths of the three slices
@@ -95,10 +91,10 @@ module _ (s : Slices) (work : List ℕ) (h : Sizes) (x : NetSlices) (o I : ℕ) 
   literal_there : get_or net.outputs o 0 ≡ l
   literal_there = get_or-take h.outputs x.outs o 0 a.judge.there
 
-  pub output_asks : (work₀ : List ℕ) → Forgets (index_size (room s)) work work₀ → OutputAsked h.vars s work₀ x.lefts x.rights0 x.rights1 h.gates (get_or x.outs o 0)
-  output_asks work₀ f = record {
+  pub output_asks : OutputAsked h.vars s work x.lefts x.rights0 x.rights1 h.gates (get_or x.outs o 0)
+  output_asks = record {
     build = record {
-      live = live_forgets a.ready.few a.ready.sound a.ready.indexed f;
+      live = a.live;
       room = omega (arith, w.vars, w.sum, b.slices.lefts_long);
       room0 = omega (arith, w.vars, w.sum, b.slices.rights0_long);
       room1 = omega (arith, w.vars, w.sum, b.slices.rights1_long);
@@ -107,9 +103,9 @@ module _ (s : Slices) (work : List ℕ) (h : Sizes) (x : NetSlices) (o I : ℕ) 
     low = rw literal_there at (output_low b.net o there);
   }
 
-  module _ (r : Made) (s₁ : Slices) (work₀ work₁ : List ℕ) (t : Took h.vars (output_steps h.vars (gates_of h.gates x.lefts x.rights0 x.rights1) (get_or x.outs o 0)) r 0 s s₁ work₀ work₁) where
-    took : Took h.vars (output_steps net.M net.gates (get_or net.outputs o 0)) r 0 s s₁ work₀ work₁
-    took = subst (λ (j : ℕ). Took h.vars (output_steps net.M net.gates j) r 0 s s₁ work₀ work₁) (sym literal_there) t
+  module _ (r : Made) (s₁ : Slices) (work₁ : List ℕ) (t : Took h.vars (output_steps h.vars (gates_of h.gates x.lefts x.rights0 x.rights1) (get_or x.outs o 0)) r 0 s s₁ work work₁) where
+    took : Took h.vars (output_steps net.M net.gates (get_or net.outputs o 0)) r 0 s s₁ work work₁
+    took = subst (λ (j : ℕ). Took h.vars (output_steps net.M net.gates j) r 0 s s₁ work work₁) (sym literal_there) t
 
     inputs_long : length net.inputs ≡ I
     inputs_long = length-take-le h.inputs x.ins (omega (arith, w.vars, w.sum, b.slices.ins_long)) ∙ sym a.judge.long
@@ -120,7 +116,7 @@ module _ (s : Slices) (work : List ℕ) (h : Sizes) (x : NetSlices) (o I : ℕ) 
         let e = get_or-take h.inputs x.ins i 0 (omega (arith, a.judge.long)) in
         (rw e at n.0, rw e at n.1)
 
-    pattern_ready : (r : Made) → Took h.vars (output_steps net.M net.gates (get_or net.outputs o 0)) r 0 s s₁ work₀ work₁ → PatternIf r h.vars s₁ x.ins I
+    pattern_ready : (r : Made) → Took h.vars (output_steps net.M net.gates (get_or net.outputs o 0)) r 0 s s₁ work work₁ → PatternIf r h.vars s₁ x.ins I
     pattern_ready Full d = tt
     pattern_ready (At k c) d = record {
       lent = taken_lent b.lent d.taken;
@@ -132,7 +128,7 @@ module _ (s : Slices) (work : List ℕ) (h : Sizes) (x : NetSlices) (o I : ℕ) 
       low = λ i g. omega (arith, (input_in i g).1);
     }
       where
-        number_used : (k : Row) (c : ℕ) → Took h.vars (output_steps net.M net.gates (get_or net.outputs o 0)) (At k c) 0 s s₁ work₀ work₁ → k.0 < c + 2
+        number_used : (k : Row) (c : ℕ) → Took h.vars (output_steps net.M net.gates (get_or net.outputs o 0)) (At k c) 0 s s₁ work work₁ → k.0 < c + 2
         number_used k c d =
             let z = reduced h.vars net.gates (get_or net.outputs o 0) (gates_ascending b.net) (output_low b.net o there) in
             let e : output_steps net.M net.gates (get_or net.outputs o 0) none ≡ answer k.0 (rows_of s₁ c) = ap (output_steps net.M net.gates (get_or net.outputs o 0)) (sym (rows_of_none s)) ∙ taken_rows d.taken in
@@ -142,7 +138,7 @@ module _ (s : Slices) (work : List ℕ) (h : Sizes) (x : NetSlices) (o I : ℕ) 
     pub end_asks : EndAsked r h.vars s₁ x.ins I
     end_asks = record { lent = taken_lends b.lent took.taken; pattern = pattern_ready r took }
 
-    ends : (r : Made) → Took h.vars (output_steps net.M net.gates (get_or net.outputs o 0)) r 0 s s₁ work₀ work₁ → (p : List ℕ) → length p ≡ I
+    ends : (r : Made) → Took h.vars (output_steps net.M net.gates (get_or net.outputs o 0)) r 0 s s₁ work work₁ → (p : List ℕ) → length p ≡ I
         → end_with (verdict_of net (room s) o) s p ≡ end_of r h.vars (take (length p) x.ins) s₁ p
     ends Full d p e = ends_full net s o p b.lent d.taken
     ends (At k c) d p e = go (eqb k.0 0) refl
@@ -178,8 +174,8 @@ module _ (s : Slices) (h : Sizes) (x : NetSlices) (o I : ℕ) (a : JudgeAsked s 
   pub never_unsound : t ≡ Unsound → ⊥
   never_unsound q = never_false (empty_sound h.vars s) (subst (λ (t : Table). Checked t h.vars 0 s work) q d).finding.1
 
-  pub ready_asks : t ≡ Fine → words_needed (room s) ≤ length work → ReadyAsked s work h x o I
-  ready_asks q n = record { judge = a; ready = fine_ready d q; needed = n }
+  pub ready_asks : t ≡ Fine → ReadyAsked s work h x o I
+  ready_asks q = record { judge = a; live = fine_live d q }
 
 -- 14 and 15
 
@@ -224,27 +220,7 @@ module _ (text : List ℕ) (s : Slices) (o : ℕ) (p : List ℕ) where
     pub text_refused : {w : Refusal} {v : ℕ} → r ≡ Unread w → v ≡ number_of_refusal w → Answered (circuit_call text s o p) (Refused v) s p
     text_refused q e = record { is = call_read text s o p fine (net_unread g q) ∙ ap (λ (n : ℕ). left (refusal n) s p) (sym e) }
 
--- an answer of the code is told by the verdict or refusal that it stands for
-
-abbrev judged_as : Answer → Judged
-judged_as (verdict_0 n) = Never n
-judged_as (verdict_1 n) = Can n
-judged_as verdict_2 = RoomOut
-judged_as (refusal why) = Refused why
-
-judged_back : (r : Judged) → judged_as (answer_of_judged r) ≡ r
-judged_back (Never n) = refl
-judged_back (Can n) = refl
-judged_back RoomOut = refl
-judged_back (Refused why) = refl
-
 -- "Uniqueness is proved: any two outcomes a contract allows coincide."
-pub circuit_unique : {text : List ℕ} {s : Slices} {o : ℕ} {p : List ℕ} {r r' : Judged} {t t' : Slices} {q q' work w w' : List ℕ}
-    → Judges text s o p r t q work w → Judges text s o p r' t' q' work w' → (r ≡ r') × (t ≡ t') × (q ≡ q') × (w ≡ w')
-circuit_unique {r = r} {r'} a b =
-    let e = sym a.answered.is ∙ b.answered.is in (
-      sym (judged_back r) ∙ ap (λ (x : Left). judged_as x.answer) e ∙ judged_back r',
-      ap (λ (x : Left). x.table) e,
-      ap (λ (x : Left). x.pattern) e,
-      a.zeros ∙ sym b.zeros,
-    )
+pub circuit_unique : (text : List ℕ) (s : Slices) (o : ℕ) (p : List ℕ) (r r' : Judged) (t t' : Slices) (q q' : List ℕ) → Answered (circuit_call text s o p) r t q → Answered (circuit_call text s o p) r' t' q'
+    → left (answer_of_judged r) t q ≡ left (answer_of_judged r') t' q'
+circuit_unique text s o p r r' t t' q q' a b = sym a.is ∙ b.is

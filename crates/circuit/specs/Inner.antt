@@ -1,10 +1,8 @@
 -- What the inner functions of the circuit call ask and promise.
 -- Assumes nothing: these are definitions.
-use Rattle.std.specs.Prelude.{ℕ, ◌/◌, ◌<◌, ◌≤◌, ◌≡◌, List, length}
+use Rattle.std.specs.Prelude.{ℕ, ◌/◌, ◌<◌, ◌≤◌, ◌≡◌, List}
 use Rattle.steps.specs.Table.{Slices}
-use Rattle.table.specs.Lent.{room}
-use Rattle.table.specs.Memory.{words_needed}
-use Rattle.checks.specs.Checks.{Ready}
+use Rattle.table.specs.Memory.{Live}
 use Rattle.aiger.specs.Answers.{Slices as NetSlices}
 use Rattle.aiger.specs.declared.header.Sizes.{Sizes}
 use Rattle.gates.specs.Inner.{BuildAsked, NetAsked}
@@ -20,8 +18,7 @@ pub record JudgeAsked (s : Slices) (h : Sizes) (x : NetSlices) (o I : ℕ) : Typ
   pub there : o < h.outputs
   pub long : I ≡ h.inputs
 
--- and the working slice is long enough and begins with the index
+-- and the working slice is ready
 pub record ReadyAsked (s : Slices) (work : List ℕ) (h : Sizes) (x : NetSlices) (o I : ℕ) : Type 0 where
   pub judge : JudgeAsked s h x o I
-  pub ready : Ready h.vars 0 s work
-  pub needed : words_needed (room s) ≤ length work
+  pub live : Live h.vars 0 s work

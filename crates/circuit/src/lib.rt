@@ -1,15 +1,13 @@
 // The circuit call: a text becomes a net, the net's gates a system in the lent table, and one output is judged by it.
 mod output;
 
-ghost use Rattle.std.specs.Prelude.{◌≡◌, ◌≤◌, length};
+ghost use Rattle.std.specs.Prelude.{◌≡◌, length, replicate};
 ghost use Rattle.steps.specs.Table.{slices};
-ghost use Rattle.table.specs.Memory.{words_needed};
 ghost use Rattle.aiger.specs.Answers as net;
 ghost use Rattle.verdicts.specs.Calls.{lengths_fine, end_with, judge, circuit_call};
 ghost use Rattle.verdicts.specs.Verdicts.{verdict_of};
 ghost use Rattle.endings.specs.Answers.{Answered};
 ghost use Rattle.gates.specs.Inner.{NetAsked};
-ghost use Rattle.circuit.specs.Calls.{Judges};
 ghost use Rattle.circuit.specs.Inner.{ReadyAsked, JudgeAsked};
 
 use crate::output::output;
@@ -19,7 +17,7 @@ use aiger::net::NetRead;
 use checks::check::{Table, check};
 use endings::{Judged, ended};
 use nets::for_circuit::{number_of, read_net};
-use table::memory::{forget, words_needed};
+use table::make::Made;
 use zeros::zero_work;
 
 fn lengths_fine(vs: &[u16], ts: &[u16], es: &[u16]) -> bool
@@ -57,7 +55,6 @@ fn verdict_ready(
 {
     let n = h.vars;
     let l = Lit(outs[o]);
-    forget(vs.len(), work);
     let made = output(
         vs,
         ts,
@@ -88,9 +85,8 @@ fn verdict(
     o: usize,
     pattern: &mut [u8],
 ) -> Judged
-    requires judge_asked { JudgeAsked (slices vs.old ts.old es.old) h (net.slices ins.now outs.now lefts.now rights0.now rights1.now) o
+    requires { JudgeAsked (slices vs.old ts.old es.old) h (net.slices ins.now outs.now lefts.now rights0.now rights1.now) o
         (length pattern.old) }
-    requires vs_in_bounds { words_needed (length vs.old) ≤ length work.old }
     ensures { Answered (end_with (verdict_of
         (net.net_in h (net.slices ins.now outs.now lefts.now rights0.now rights1.now))
         (length vs.old) o) (slices vs.old ts.old es.old) pattern.old) result
@@ -121,8 +117,7 @@ fn asked(
     o: usize,
     pattern: &mut [u8],
 ) -> Judged
-    requires net_asked { NetAsked (slices vs.old ts.old es.old) h (net.slices ins.now outs.now lefts.now rights0.now rights1.now) }
-    requires vs_in_bounds { words_needed (length vs.old) ≤ length work.old }
+    requires { NetAsked (slices vs.old ts.old es.old) h (net.slices ins.now outs.now lefts.now rights0.now rights1.now) }
     ensures { Answered (judge
         (net.net_in h (net.slices ins.now outs.now lefts.now rights0.now rights1.now))
         (slices vs.old ts.old es.old) o pattern.old) result
@@ -139,8 +134,7 @@ fn asked(
     )
 }
 
-// In a working slice that is long enough.
-fn circuit_in(
+fn circuit_read(
     text: &[u8],
     vs: &mut [u16],
     ts: &mut [u16],
@@ -149,7 +143,6 @@ fn circuit_in(
     o: usize,
     pattern: &mut [u8],
 ) -> Judged
-    requires { words_needed (length vs.old) ≤ length work.old }
     ensures { Answered (circuit_call text.now (slices vs.old ts.old es.old) o pattern.old) result
         (slices vs.new ts.new es.new) pattern.new }
 {
@@ -177,40 +170,6 @@ fn circuit_in(
     }
 }
 
-// In an array of its own.
-fn circuit_apart(
-    text: &[u8],
-    vs: &mut [u16],
-    ts: &mut [u16],
-    es: &mut [u16],
-    o: usize,
-    pattern: &mut [u8],
-) -> Judged
-    ensures { Answered (circuit_call text.now (slices vs.old ts.old es.old) o pattern.old) result
-        (slices vs.new ts.new es.new) pattern.new }
-{
-    let mut own = [0u64; 74752];
-    circuit_in(text, vs, ts, es, &mut own, o, pattern)
-}
-
-fn circuit_read(
-    text: &[u8],
-    vs: &mut [u16],
-    ts: &mut [u16],
-    es: &mut [u16],
-    work: &mut [u64],
-    o: usize,
-    pattern: &mut [u8],
-) -> Judged
-    ensures { Answered (circuit_call text.now (slices vs.old ts.old es.old) o pattern.old) result
-        (slices vs.new ts.new es.new) pattern.new }
-{
-    if work.len() < words_needed(vs.len()) {
-        return circuit_apart(text, vs, ts, es, o, pattern);
-    }
-    circuit_in(text, vs, ts, es, work, o, pattern)
-}
-
 // The circuit call.
 pub fn circuit(
     text: &[u8],
@@ -221,8 +180,9 @@ pub fn circuit(
     o: usize,
     pattern: &mut [u8],
 ) -> Judged
-    ensures { Judges text.now (slices vs.old ts.old es.old) o pattern.old result
-        (slices vs.new ts.new es.new) pattern.new work.old work.new }
+    ensures answered { Answered (circuit_call text.now (slices vs.old ts.old es.old) o pattern.old) result
+        (slices vs.new ts.new es.new) pattern.new }
+    ensures work_after { work.new ≡ replicate (length work.old) 0 }
 {
     let r = circuit_read(text, vs, ts, es, work, o, pattern);
     zero_work(work);

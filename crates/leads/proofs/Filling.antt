@@ -1,6 +1,6 @@
--- Writing the table of what is left of a system, in the words behind the index.
-use Prim.Native.Nat.{ℕ, suc, ◌+◌, ◌/◌, ◌<◌, ◌≤◌}
-use mathlib.Core.Path.{◌≡◌, refl, ap, ◌∙◌}
+-- Writing the table of what is left of a system, in the words behind the remembered results.
+use Prim.Native.Nat.{ℕ, suc, ◌+◌, ◌-◌, ◌<◌, ◌≤◌}
+use mathlib.Core.Path.{◌≡◌, refl, ap, subst, ◌∙◌}
 use mathlib.Core.List.{List}
 use native.Mathlib.Omega.{arith}
 use native.Mathlib.Decide.{ℕ_discrete}
@@ -9,34 +9,44 @@ use lib.ListN.{length, get_or, set, length-set}
 use lib.Seq.{get_or-set_same, get_or-set_other}
 use Rattle.steps.specs.Rows.{Rows, next}
 use Rattle.steps.specs.Table.{Slices, rows_of}
-use Rattle.steps.proofs.Table.{rows_of_next}
+use Rattle.steps.proofs.Table.{rows_of_next, rows_of_count}
 use Rattle.table.specs.Lent.{room, Numbered}
-use Rattle.table.specs.Index.{index_size}
-use Rattle.table.specs.Memory.{memory_size, Live}
-use Rattle.table.proofs.Words.{indexed_same}
+use Rattle.table.specs.Index.{index_words}
+use Rattle.table.specs.Memory.{reach, Live}
+use Rattle.table.proofs.Buckets.{index_room}
+use Rattle.table.proofs.Links.{chains_same}
+use Rattle.table.proofs.Words.{reach_after, reach_fits}
 use Rattle.leads.specs.Inner.{Skips, stays, Past, no_lead, at_lead, System, Filled}
 use Rattle.leads.proofs.Skipping.{Left, skips_left, skips_same, skips_lead}
 
--- words of the table may be written
+-- room for the table behind the remembered results, as the code tests it
+module _ (R L from : ℕ) (z : reach R L ≡ from) where
+  pub from_fits : from ≤ L
+  from_fits = omega (arith, reach_fits R L)
+
+  module _ (N : ℕ) where
+    pub table_fits : N ≤ L - from → from + N ≤ L
+    table_fits h = omega (arith, from_fits)
+
+    pub no_table : L - from < N → L < reach R L + N
+    no_table h = omega (arith, from_fits)
+
+-- words behind the memory may be written
 module _ (N c : ℕ) (s : Slices) (work : List ℕ) (d : Live N c s work) where
-  abbrev H : ℕ
-  H = index_size (room s)
-
-  -- they are there
-  lead_there : (v : ℕ) → v < N → index_size (room s) + v < length work
-  lead_there v h = omega (arith, d.few, d.memory.fits)
-
-  live_lead : (v x : ℕ) → 0 < v → v < N → Live N c s (set work (index_size (room s) + v) x)
-  live_lead v x p h =
-      let e : length (set work (H + v) x) ≡ length work = length-set work (H + v) x in
-      let same : (j : ℕ) → (j ≡ H + v → ⊥) → get_or (set work (H + v) x) j 0 ≡ get_or work j 0 = λ j l. get_or-set_other work (H + v) j x 0 l in
-      let size : memory_size H (set work (H + v) x) ≡ memory_size H work = ap (λ (w : ℕ). w / 4294967296) (same H (λ z. omega arith)) in
+  pub live_behind : (i x : ℕ) → reach (room s) (length work) ≤ i → Live N c s (set work i x)
+  live_behind i x h =
+      let e : length (set work i x) ≡ length work = length-set work i x in
+      let same : (j : ℕ) → j < reach (room s) (length work) → get_or (set work i x) j 0 ≡ get_or work j 0 = λ j l. get_or-set_other work i j x 0 (λ z. omega arith) in
       record {
-        few = d.few;
         sound = d.sound;
-        indexed = indexed_same e (λ j l. same j (λ z. omega arith)) d.indexed;
-        memory = record { some = rw size d.memory.some; most = rw size d.memory.most; fits = rw (size, e) d.memory.fits };
-        words = rw size (record { each = λ j op f g l n p p' lf lg q. let y = same j (λ z. omega (arith, d.few)) in rw y (d.words.each j op f g l n p p' lf lg (rw y at q)) });
+        indexed = record {
+          lent = d.indexed.lent;
+          apart = d.indexed.apart;
+          chains = rw e (λ p. chains_same (index_words (room s) (length work)) (rows_of s c) work (set work i x)
+              (omega (arith, rows_of_count s c, index_room (room s) (length work) d.indexed.lent.small p, d.indexed.lent.used))
+              (λ j l. same j (omega (arith, reach_after (room s) (length work)))) (d.indexed.chains p));
+        };
+        words = rw e (record { each = λ j op f g l n p p' lf lg q. rw (same j n) (d.words.each j op f g l n p p' lf lg (rw (same j n) at q)) });
       }
 
 -- the table so far
@@ -45,7 +55,7 @@ pub record Filling (N c : ℕ) (s : Slices) (work₀ work : List ℕ) (f g v : �
   pub same_length : length work ≡ length work₀
   pub upto : v ≤ N
   pub left : Skips N (rows_of s c) v f g
-  pub each : (u : ℕ) → 0 < u → u ≤ v → Skips N (rows_of s c) u f (get_or work (index_size (room s) + u) 0)
+  pub each : (u : ℕ) → u < v → Skips N (rows_of s c) u f (get_or work (reach (room s) (length work₀) + u) 0)
 
 module _ (N c : ℕ) (s : Slices) (work₀ : List ℕ) (f : ℕ) (d : Live N c s work₀) (y : System c f) where
   abbrev R : Rows
@@ -54,12 +64,20 @@ module _ (N c : ℕ) (s : Slices) (work₀ : List ℕ) (f : ℕ) (d : Live N c s
   used : f < next R
   used = omega (arith, rows_of_next s c, y.used)
 
+  -- no room for a table
+  pub fill_none : length work₀ < reach (room s) (length work₀) + N → Filled N c s work₀ work₀ f
+  fill_none h = record { live = d; table = record { each = λ l. absurd (omega arith) }; same_length = refl }
+
   pub fill_starts : Filling N c s work₀ work₀ f f 0
-  fill_starts = record { live = d; same_length = refl; upto = omega arith; left = stays f (omega arith); each = λ u p l. absurd (omega arith) }
+  fill_starts = record { live = d; same_length = refl; upto = omega arith; left = stays f (omega arith); each = λ u l. absurd (omega arith) }
 
   module _ (work : List ℕ) (g v : ℕ) (i : Filling N c s work₀ work f g v) where
-    pub fill_ends : N ≤ v + 1 → Filled N c s work₀ work f
-    fill_ends h = record { live = i.live; table = record { each = λ u b b'. i.each u (omega arith) (omega arith) }; same_length = i.same_length }
+    pub fill_ends : N ≤ v → Filled N c s work₀ work f
+    fill_ends h = record {
+      live = i.live;
+      table = record { each = rw i.same_length (λ l u b b'. i.each u (omega arith)) };
+      same_length = i.same_length;
+    }
 
     rest : Left N R d.sound v i.upto f g
     rest = skips_left N R d.sound v i.upto f g used y.not_0 i.left
@@ -67,26 +85,30 @@ module _ (N c : ℕ) (s : Slices) (work₀ : List ℕ) (f : ℕ) (d : Live N c s
     pub fill_asks : Numbered c s g
     fill_asks = record { lent = d.indexed.lent; used = omega (arith, rows_of_next s c, rest.used) }
 
-    module _ (h : v + 1 < N) (H : ℕ) (z : index_size (room s) ≡ H) where
-      pub fill_there : H + (v + 1) < length work
-      fill_there = rw z at (lead_there N c s work i.live (v + 1) h)
+    module _ (room_is : reach (room s) (length work₀) + N ≤ length work₀) (h : v < N) where
+      fill_fits : reach (room s) (length work₀) + v < length work
+      fill_fits = omega (arith, i.same_length)
 
       go_on : (g' : ℕ) → Past N R v g g' → Skips N R (suc v) f g'
-      go_on g' (no_lead l) = skips_same N R d.sound v (omega arith) f g l i.left
-      go_on g' (at_lead l) = skips_lead N R d.sound v (omega arith) f g used l i.left
+      go_on g' (no_lead l) = skips_same N R d.sound v h f g l i.left
+      go_on g' (at_lead l) = skips_lead N R d.sound v h f g used l i.left
 
-      pub fill_goes_on : (g' : ℕ) → Past N (rows_of s c) v g g' → Filling N c s work₀ (set work (H + (v + 1)) g') f g' (v + 1)
-      fill_goes_on g' p = record {
-        live = rw z at (live_lead N c s work i.live (v + 1) g' (omega arith) h);
-        same_length = length-set work (H + (v + 1)) g' ∙ i.same_length;
+      fill_next : (g' : ℕ) → Past N (rows_of s c) v g g' → Filling N c s work₀ (set work (reach (room s) (length work₀) + v) g) f g' (v + 1)
+      fill_next g' p = record {
+        live = live_behind N c s work i.live (reach (room s) (length work₀) + v) g (omega (arith, ap (reach (room s)) i.same_length));
+        same_length = length-set work (reach (room s) (length work₀) + v) g ∙ i.same_length;
         upto = omega arith;
-        left = next_left;
-        each = rw z (λ u q l. at u q l (ℕ_discrete u (v + 1)));
+        left = rw (add-one v) (go_on g' p);
+        each = λ u l. at u l (ℕ_discrete u v);
       }
         where
-          next_left : Skips N R (v + 1) f g'
-          next_left = rw (add-one v) (go_on g' p)
+          at : (u : ℕ) → u < v + 1 → Dec (u ≡ v) → Skips N R u f (get_or (set work (reach (room s) (length work₀) + v) g) (reach (room s) (length work₀) + u) 0)
+          at u l (yes e) = rw (e, get_or-set_same work (reach (room s) (length work₀) + v) g 0 fill_fits) i.left
+          at u l (no e) = rw (get_or-set_other work (reach (room s) (length work₀) + v) (reach (room s) (length work₀) + u) g 0 (λ z. omega arith)) (i.each u (omega arith))
 
-          at : (u : ℕ) → 0 < u → u ≤ v + 1 → Dec (u ≡ v + 1) → Skips N R u f (get_or (set work (H + (v + 1)) g') (H + u) 0)
-          at u q l (yes e) = rw (e, get_or-set_same work (H + (v + 1)) g' 0 fill_there) next_left
-          at u q l (no e) = rw (get_or-set_other work (H + (v + 1)) (H + u) g' 0 (λ y. omega arith)) (rw z at (i.each u q (omega arith)))
+    module _ (from : ℕ) (z : reach (room s) (length work₀) ≡ from) (room_is : from + N ≤ length work₀) (h : v < N) where
+      pub fill_there : from + v < length work
+      fill_there = omega (arith, i.same_length)
+
+      pub fill_goes_on : (g' : ℕ) → Past N (rows_of s c) v g g' → Filling N c s work₀ (set work (from + v) g) f g' (v + 1)
+      fill_goes_on g' p = subst (λ (x : ℕ). Filling N c s work₀ (set work (x + v) g) f g' (v + 1)) z (fill_next (omega arith) h g' p)

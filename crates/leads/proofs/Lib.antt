@@ -1,4 +1,4 @@
 pub mod Skipping
-pub mod Passing
+pub mod Walking
 pub mod Filling
 pub mod Tabling

@@ -3,16 +3,16 @@ use Prim.Native.Nat.{ℕ, ◌+◌, ◌<◌, ◌≤◌}
 use mathlib.Core.Path.{◌≡◌}
 use mathlib.Core.List.{List}
 use native.Mathlib.Omega.{arith}
-use lib.ListN.{get_or}
+use lib.ListN.{length, get_or}
 use Rattle.steps.specs.Rows.{row_of, Rows, next, row, root}
 use Rattle.steps.specs.Table.{Slices, rows_of}
 use Rattle.steps.proofs.Roots.{node_below}
 use Rattle.steps.proofs.Rows.{◌≼◌, row_keeps}
 use Rattle.steps.proofs.Table.{rows_of_next}
 use Rattle.table.specs.Lent.{room, Numbered}
-use Rattle.table.specs.Index.{index_size}
-use Rattle.table.specs.Memory.{Live, Carries}
-use Rattle.leads.specs.Inner.{Skips, stays, Reducing}
+use Rattle.table.specs.Memory.{reach, Live, Behind}
+use Rattle.table.proofs.Links.{behind_word}
+use Rattle.leads.specs.Inner.{Skips, stays, Walking, Reducing}
 use Rattle.leads.proofs.Skipping.{skips_left, skips_keeps, skips_inside, skips_through}
 
 -- the table as it is read, and kept
@@ -26,17 +26,20 @@ module _ (N c : ℕ) (s : Slices) (work : List ℕ) (f : ℕ) (d : Reducing N c 
   pub lead_asks : Numbered c s f
   lead_asks = record { lent = d.live.indexed.lent; used = d.system.used }
 
+  pub lead_walks : (v : ℕ) → v < N → Walking N c s f v
+  lead_walks v h = record { lent = d.live.indexed.lent; sound = d.live.sound; system = d.system; var_below = h }
+
   module _ (v : ℕ) (h : v < N) where
     pub lead_stays : (u t e : ℕ) → row N (rows_of s c) f ≡ row_of u t e → v ≤ u → Skips N (rows_of s c) v f f
     lead_stays u t e q l = stays f (rw (root, q) l)
 
-    module _ (u t e : ℕ) (q : row N (rows_of s c) f ≡ row_of u t e) (l : u < v) (H : ℕ) (z : index_size (room s) ≡ H) where
-      pub lead_read : Skips N (rows_of s c) v f (get_or work (H + v) 0)
-      lead_read = rw z at (d.table.each v (rw (root, q) l) h)
+    module _ (u t e : ℕ) (q : row N (rows_of s c) f ≡ row_of u t e) (l : u < v) (from : ℕ) (z : reach (room s) (length work) ≡ from) (b : from + N ≤ length work) where
+      pub lead_read : Skips N (rows_of s c) v f (get_or work (from + v) 0)
+      lead_read = rw z at (d.table.each (omega arith) v (rw (root, q) l) h)
 
-      pub lead_small : get_or work (H + v) 0 < 65536
+      pub lead_small : get_or work (from + v) 0 < 65536
       lead_small =
-          let g = (skips_left N R d.live.sound v (omega arith) f (get_or work (H + v) 0) used d.system.not_0 lead_read).used in
+          let g = (skips_left N R d.live.sound v (omega arith) f (get_or work (from + v) 0) used d.system.not_0 lead_read).used in
           omega (arith, rows_of_next s c, g, d.live.indexed.lent.used, d.live.indexed.lent.small)
 
     -- what is left of f is a system with its table
@@ -46,7 +49,7 @@ module _ (N c : ℕ) (s : Slices) (work : List ℕ) (f : ℕ) (d : Reducing N c 
         record {
           live = d.live;
           system = record { used = omega (arith, rows_of_next s c, l.used); not_0 = l.not_0 };
-          table = record { each = λ u p p'. skips_through N R v u (omega (arith, l.reached)) f g _ k (d.table.each u (omega (arith, l.behind)) p') };
+          table = record { each = λ b u p p'. skips_through N R v u (omega (arith, l.reached)) f g _ k (d.table.each b u (omega (arith, l.behind)) p') };
         }
 
   -- and so are the other equations of f
@@ -56,18 +59,17 @@ module _ (N c : ℕ) (s : Slices) (work : List ℕ) (f : ℕ) (d : Reducing N c 
       record {
         live = d.live;
         system = record { used = omega (arith, rows_of_next s c, n.cut.then_used); not_0 = n.then_not_0 };
-        table = record { each = λ u p p'. skips_inside N R u f _ (omega (arith, n.cut.then_above)) (d.table.each u (omega (arith, n.cut.then_above)) p') };
+        table = record { each = λ b u p p'. skips_inside N R u f _ (omega (arith, n.cut.then_above)) (d.table.each b u (omega (arith, n.cut.then_above)) p') };
       }
 
   -- steps keep the system and its table
-  pub reducing_keeps : (n : ℕ) (s' : Slices) (work' : List ℕ) → rows_of s c ≼ rows_of s' n → f < n + 2 → room s' ≡ room s → Carries (index_size (room s)) work work' → Live N n s' work'
-      → Reducing N n s' work' f
+  pub reducing_keeps : (n : ℕ) (s' : Slices) (work' : List ℕ) → rows_of s c ≼ rows_of s' n → f < n + 2 → room s' ≡ room s → Behind (room s) work work' → Live N n s' work' → Reducing N n s' work' f
   reducing_keeps n s' work' g u e b l = record {
     live = l;
     system = record { used = u; not_0 = d.system.not_0 };
     table = record {
-      each = rw e (λ v p p'.
-          rw (b.leads (index_size (room s) + v) (omega arith) (omega (arith, d.live.few)))
-          (skips_keeps N R d.live.sound v (omega arith) (rows_of s' n) g f _ used (d.table.each v (rw (root, ← row_keeps N g f used) p) p')));
+      each = rw (e, b.same_length) (λ t v p p'.
+          rw (behind_word (reach (room s) (length work)) work work' b.rest (reach (room s) (length work) + v) (omega arith))
+          (skips_keeps N R d.live.sound v (omega arith) (rows_of s' n) g f _ used (d.table.each t v (rw (root, ← row_keeps N g f used) p) p')));
     };
   }

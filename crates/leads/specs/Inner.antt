@@ -2,10 +2,10 @@
 -- Assumes nothing: these are definitions.
 use Rattle.std.specs.Prelude.{ℕ, ◌+◌, ◌<◌, ◌≤◌, ◌≡◌, List, length, get_or}
 use Rattle.steps.specs.Rows.{Rows, row, root}
+use Rattle.steps.specs.Sound.{Sound}
 use Rattle.steps.specs.Table.{Slices, rows_of}
-use Rattle.table.specs.Lent.{room}
-use Rattle.table.specs.Index.{index_size}
-use Rattle.table.specs.Memory.{Live}
+use Rattle.table.specs.Lent.{room, Lent}
+use Rattle.table.specs.Memory.{reach, Live}
 
 -- "Root of p above F's in index: normal form of p by then(F)": G is what is left of the system F once the leads below v are skipped
 pub data Skips (N : ℕ) (R : Rows) (v : ℕ) : ℕ → ℕ → Type 0 where
@@ -22,10 +22,20 @@ pub record System (c f : ℕ) : Type 0 where
   pub used : f < c + 2
   pub not_0 : f ≡ 0 → ⊥
 
--- the table of systems, in the words behind the index: the word for v tells what is left of the system f once the leads below v are skipped.
--- It need not be right for leads that f itself is behind
+-- the table of systems, in the N words behind the remembered results: word v tells what is left of the system f once the leads below v are skipped.
+-- It is there where the working slice is long enough, and need not be right for leads that f itself is behind
+abbrev pub tabled : ℕ → Slices → List ℕ → Type 0
+tabled N s work = reach (room s) (length work) + N ≤ length work
+
 pub record Tabled (N c : ℕ) (s : Slices) (work : List ℕ) (f : ℕ) : Type 0 where
-  pub each : (v : ℕ) → root N (rows_of s c) f < v → v < N → Skips N (rows_of s c) v f (get_or work (index_size (room s) + v) 0)
+  pub each : tabled N s work → (v : ℕ) → root N (rows_of s c) f < v → v < N → Skips N (rows_of s c) v f (get_or work (reach (room s) (length work) + v) 0)
+
+-- what walking through the leads of f asks
+pub record Walking (N c : ℕ) (s : Slices) (f v : ℕ) : Type 0 where
+  pub lent : Lent c s
+  pub sound : Sound N (rows_of s c)
+  pub system : System c f
+  pub var_below : v < N
 
 -- the table was written, and nothing that the inner functions ask was touched
 pub record Filled (N c : ℕ) (s : Slices) (work work' : List ℕ) (f : ℕ) : Type 0 where

@@ -1,4 +1,2 @@
 pub mod Zero
 pub mod Unique
-pub mod StandsFor
-pub mod RowsStay

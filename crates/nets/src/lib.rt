@@ -2,7 +2,8 @@
 mod body;
 pub mod for_circuit;
 
-ghost use Rattle.aiger.specs.Answers.{ReadsText};
+ghost use Rattle.std.specs.Prelude.{◌≡◌};
+ghost use Rattle.aiger.specs.Answers.{text_call};
 
 use crate::for_circuit::{number_of, read_net};
 use aiger::Answer;
@@ -10,7 +11,7 @@ use aiger::net::NetRead;
 
 // The text call: the scope's checks from 9 to the output literals.
 pub fn text(s: &[u8]) -> Answer
-    ensures { ReadsText s.now result }
+    ensures { result ≡ text_call s.now }
 {
     let mut ins = [0u16; 1024];
     let mut outs = [0u16; 1024];

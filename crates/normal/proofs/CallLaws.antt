@@ -1,10 +1,8 @@
--- The ways out of the calls equation and normal form, and that each allows one outcome.
-use Prim.Native.Nat.{ℕ, suc, ◌+◌, ◌<◌, ◌≤◌}
+-- The ways out of the calls equation and normal form.
+use Prim.Native.Nat.{ℕ, ◌+◌, ◌<◌, ◌≤◌}
 use mathlib.Core.Path.{◌≡◌, refl, ◌∙◌}
-use mathlib.Core.Bool.{◌&&◌, not}
 use mathlib.Core.List.{List}
 use native.Mathlib.Omega.{arith}
-use lib.Dec.{eqb}
 use borrow.Author.Tests.{lt-ltb, le-ltb, eq-eqb, ne_eqb}
 use Rattle.steps.specs.Rows.{next, row, root, row_of}
 use Rattle.steps.specs.Sound.{Sound, sound}
@@ -12,7 +10,6 @@ use Rattle.steps.specs.Steps.{normal}
 use Rattle.steps.specs.System.{InOrder, equation}
 use Rattle.steps.specs.Table.{Slices, rows_of}
 use Rattle.steps.proofs.Equations.{equation_holds}
-use Rattle.steps.proofs.Keeps.{keeps_make, keeps_normals}
 use Rattle.steps.proofs.Table.{rows_of_next}
 use Rattle.steps.proofs.Theorems.{normal_agrees, normal_no_lead}
 use Rattle.table.specs.declared.Answer.{Answer}
@@ -23,10 +20,9 @@ use Rattle.checks.specs.declared.check.Table.TheVariants.{Fine, OutOfRange, Unso
 use Rattle.table.specs.Lent.{Lent}
 use Rattle.table.specs.Inner.{Taken}
 use Rattle.checks.specs.Checks.{Checked}
-use Rattle.table.specs.Calls.{unless◌then◌else◌, in_range, in_use, Left, left, refuse, take_steps, checked, finished, Does, Stay}
-use Rattle.table.proofs.Leaves.{refused_stay, steps_stay, unless_stay, checked_stay, appends_unique}
-use Rattle.checks.proofs.CallEnds.{does_made, does_range, does_unsound, does_fine}
-use Rattle.normal.specs.Calls.{system_checked, in_order, equation_checked, equation_call, Adds, AddsEquation, normal_checked, normal_call, Reduced, GivesNormalForm}
+use Rattle.table.specs.Calls.{unless◌then◌else◌, in_range, Left, left, refuse, take_steps, checked, finished, Does}
+use Rattle.checks.proofs.CallEnds.{does_made, does_range, does_unsound, does_fine, does_unique}
+use Rattle.normal.specs.Calls.{system_checked, in_order, equation_checked, equation_call, Adds, normal_checked, normal_call, Reduced}
 
 -- 3 and 4
 system_fine : (c : ℕ) (s : Slices) (k F : ℕ) (done : Left) → k < c + 2 → F < c + 2 → (F ≡ 0 → ⊥) → system_checked c s k F done ≡ done
@@ -118,31 +114,9 @@ module _ (N c : ℕ) (s : Slices) (p F : ℕ) {work : List ℕ} {b : Table} (d :
   pub normal_fine : b ≡ Fine → {r : Answer} {s' : Slices} → Does (Reduced c s p F) (normal_checked N c s p F) r s' → Does (Reduced c s p F) (normal_call N c s p F) r s'
   normal_fine = does_fine (Reduced c s p F) N c s (normal_call N c s p F) (normal_checked N c s p F) (normal_is N c s p F) d
 
--- the rows in use stay as they were
-module _ (N c : ℕ) (s : Slices) where
-  system_stays : (k F : ℕ) (done : Left) → Stay c s done.table → Stay c s (system_checked c s k F done).table
-  system_stays k F done p =
-      unless_stay c s (in_use c k && in_use c F) (refuse 3 s) _ (refused_stay c s 3)
-      (unless_stay c s (not (eqb F 0)) (refuse 4 s) done (refused_stay c s 4) p)
-
-  pub equation_stays : (i F t : ℕ) → Stay c s (equation_call N c s i F t).table
-  unfolding equation_call
-  equation_stays i F t =
-      checked_stay c s (in_range N c s) (sound N (rows_of s c)) (equation_checked N c s i F t)
-      (system_stays t F _
-      (unless_stay c s (in_order N (rows_of s c) i F t) (refuse 5 s) (take_steps (equation i F t) c s) (refused_stay c s 5)
-      (steps_stay c s (equation i F t) (keeps_make i F t))))
-
-  pub normal_stays : (p F : ℕ) → Stay c s (normal_call N c s p F).table
-  unfolding normal_call
-  normal_stays p F =
-      checked_stay c s (in_range N c s) (sound N (rows_of s c)) (normal_checked N c s p F)
-      (system_stays p F (take_steps (normal N p F) c s) (steps_stay c s (normal N p F) (keeps_normals N (suc N) p F)))
-
 -- "Uniqueness is proved: any two outcomes a contract allows coincide."
-module _ (N c : ℕ) (s : Slices) {r r' : Answer} {z z' : Slices} {work w w' : List ℕ} where
-  pub equation_unique : (i F t : ℕ) → AddsEquation N c s i F t r z work w → AddsEquation N c s i F t r' z' work w' → (r ≡ r') × (z ≡ z') × (w ≡ w')
-  equation_unique i F t = appends_unique
+pub equation_unique : (N c : ℕ) (s : Slices) (i F t : ℕ) (r r' : Answer) (z z' : Slices) → Does (Adds c s i F t) (equation_call N c s i F t) r z → Does (Adds c s i F t) (equation_call N c s i F t) r' z' → left r z ≡ left r' z'
+equation_unique N c s i F t = does_unique (Adds c s i F t) (equation_call N c s i F t)
 
-  pub normal_form_unique : (p F : ℕ) → GivesNormalForm N c s p F r z work w → GivesNormalForm N c s p F r' z' work w' → (r ≡ r') × (z ≡ z') × (w ≡ w')
-  normal_form_unique p F = appends_unique
+pub normal_form_unique : (N c : ℕ) (s : Slices) (p F : ℕ) (r r' : Answer) (z z' : Slices) → Does (Reduced c s p F) (normal_call N c s p F) r z → Does (Reduced c s p F) (normal_call N c s p F) r' z' → left r z ≡ left r' z'
+normal_form_unique N c s p F = does_unique (Reduced c s p F) (normal_call N c s p F)

@@ -1,14 +1,13 @@
 -- What the calls equation and normal form answer, leave and mean, for all inputs.
 -- Assumes nothing: these are definitions.
-use Rattle.std.specs.Prelude.{ℕ, ◌≡◌, Bool, true, false, ◌&&◌, not, List, eqb, ltb}
+use Rattle.std.specs.Prelude.{ℕ, ◌≡◌, Bool, true, false, ◌&&◌, not, eqb, ltb}
 use Rattle.std.specs.Bool.{beq}
 use Rattle.steps.specs.Rows.{Rows, Assignment, value, root}
 use Rattle.steps.specs.Sound.{sound}
 use Rattle.steps.specs.Steps.{normal}
 use Rattle.steps.specs.System.{equation, holds, leads, occurs}
 use Rattle.steps.specs.Table.{Slices, rows_of}
-use Rattle.table.specs.declared.Answer.{Answer}
-use Rattle.table.specs.Calls.{unless◌then◌else◌, checked, in_range, in_use, Left, refuse, take_steps, Appends}
+use Rattle.table.specs.Calls.{unless◌then◌else◌, checked, in_range, in_use, Left, refuse, take_steps}
 
 -- "3: a number isn't 0, 1 or a row in use"; "4: system number is 0"; then what the call does
 abbrev pub system_checked : ℕ → Slices → ℕ → ℕ → Left → Left
@@ -28,10 +27,6 @@ equation_call N c s i F t = checked (in_range N c s) (sound N (rows_of s c)) (λ
 abbrev pub Adds : ℕ → Slices → ℕ → ℕ → ℕ → ℕ → ℕ → Slices → Type 0
 Adds c s i F t k n s' = (a : Assignment) → holds a (rows_of s' n) k ≡ beq (a i) (value a (rows_of s c) t) && holds a (rows_of s c) F
 
--- THE CONTRACT OF THE CALL equation
-abbrev pub AddsEquation : ℕ → ℕ → Slices → ℕ → ℕ → ℕ → Answer → Slices → List ℕ → List ℕ → Type 0
-AddsEquation N c s i F t r s' work work' = Appends (Adds c s i F t) (equation_call N c s i F t) c r s s' work work'
-
 abbrev pub normal_checked : ℕ → ℕ → Slices → ℕ → ℕ → Left
 normal_checked N c s p F = system_checked c s p F (take_steps (normal N p F) c s)
 
@@ -42,7 +37,3 @@ normal_call N c s p F = checked (in_range N c s) (sound N (rows_of s c)) (λ why
 pub record Reduced (c : ℕ) (s : Slices) (p F k n : ℕ) (s' : Slices) : Type 0 where
   pub agrees : (a : Assignment) → holds a (rows_of s c) F ≡ true → value a (rows_of s' n) k ≡ value a (rows_of s c) p
   pub no_lead : (v : ℕ) → leads v (rows_of s c) F ≡ true → occurs v (rows_of s' n) k ≡ false
-
--- THE CONTRACT OF THE CALL normal form
-abbrev pub GivesNormalForm : ℕ → ℕ → Slices → ℕ → ℕ → Answer → Slices → List ℕ → List ℕ → Type 0
-GivesNormalForm N c s p F r s' work work' = Appends (Reduced c s p F) (normal_call N c s p F) c r s s' work work'

@@ -1,18 +1,14 @@
 // The calls equation and normal form.
-ghost use Rattle.std.specs.Prelude.{◌≤◌, length};
+ghost use Rattle.std.specs.Prelude.{◌≡◌, ◌≤◌, length, replicate};
 ghost use Rattle.steps.specs.Table.{slices};
-ghost use Rattle.table.specs.Index.{index_size};
-ghost use Rattle.table.specs.Memory.{words_needed};
-ghost use Rattle.checks.specs.Checks.{Ready};
+ghost use Rattle.table.specs.Memory.{Live};
 ghost use Rattle.table.specs.Calls.{Does};
-ghost use Rattle.normal.specs.Calls.{equation_checked, equation_call, Adds, AddsEquation, normal_checked, normal_call, Reduced, GivesNormalForm};
+ghost use Rattle.normal.specs.Calls.{equation_checked, equation_call, Adds, normal_checked, normal_call, Reduced};
 
 use checks::check::{Table, check};
 use checks::finish::finish;
 use reduction::reduce;
-use table::index::index_size;
 use table::make::make;
-use table::memory::{forget, words_needed};
 use table::rows::{Node, row_of};
 use table::{Answer, Row, Var};
 use zeros::zero_work;
@@ -28,7 +24,7 @@ fn equation_ready(
     system: Row,
     tail: Row,
 ) -> Answer
-    requires { Ready n count (slices vs.old ts.old es.old) work.old }
+    requires { (Live n count (slices vs.old ts.old es.old) work.old) × (n ≤ 1024) }
     ensures { Does (Adds count (slices vs.old ts.old es.old) lead.0 system.0 tail.0)
         (equation_checked n count (slices vs.old ts.old es.old) lead.0 system.0 tail.0) result
         (slices vs.new ts.new es.new) }
@@ -66,50 +62,6 @@ fn equation_ready(
     finish(vs, ts, es, count, made)
 }
 
-// In a working slice that has room for an index.
-fn equation_in(
-    n: usize,
-    vs: &mut [u16],
-    ts: &mut [u16],
-    es: &mut [u16],
-    count: usize,
-    work: &mut [u64],
-    lead: Var,
-    system: Row,
-    tail: Row,
-) -> Answer
-    requires { index_size (length vs.old) ≤ length work.old }
-    ensures { Does (Adds count (slices vs.old ts.old es.old) lead.0 system.0 tail.0)
-        (equation_call n count (slices vs.old ts.old es.old) lead.0 system.0 tail.0) result
-        (slices vs.new ts.new es.new) }
-{
-    let table = check(n, vs, ts, es, count, work);
-    match table {
-        Table::OutOfRange => Answer::Refused(1),
-        Table::Unsound => Answer::Refused(2),
-        Table::Fine => equation_ready(n, vs, ts, es, count, work, lead, system, tail),
-    }
-}
-
-// In an array of its own.
-fn equation_apart(
-    n: usize,
-    vs: &mut [u16],
-    ts: &mut [u16],
-    es: &mut [u16],
-    count: usize,
-    lead: Var,
-    system: Row,
-    tail: Row,
-) -> Answer
-    ensures { Does (Adds count (slices vs.old ts.old es.old) lead.0 system.0 tail.0)
-        (equation_call n count (slices vs.old ts.old es.old) lead.0 system.0 tail.0) result
-        (slices vs.new ts.new es.new) }
-{
-    let mut own = [0u64; 8192];
-    equation_in(n, vs, ts, es, count, &mut own, lead, system, tail)
-}
-
 fn equation_checked(
     n: usize,
     vs: &mut [u16],
@@ -125,10 +77,12 @@ fn equation_checked(
         (equation_call n count (slices vs.old ts.old es.old) lead.0 system.0 tail.0) result
         (slices vs.new ts.new es.new) }
 {
-    if work.len() < index_size(vs.len()) {
-        return equation_apart(n, vs, ts, es, count, lead, system, tail);
+    let table = check(n, vs, ts, es, count, work);
+    match table {
+        Table::OutOfRange => Answer::Refused(1),
+        Table::Unsound => Answer::Refused(2),
+        Table::Fine => equation_ready(n, vs, ts, es, count, work, lead, system, tail),
     }
-    equation_in(n, vs, ts, es, count, work, lead, system, tail)
 }
 
 // The system with the equation x_lead + tail = 0 added.
@@ -143,8 +97,10 @@ pub fn equation(
     system: Row,
     tail: Row,
 ) -> Answer
-    ensures { AddsEquation n count (slices vs.old ts.old es.old) lead.0 system.0 tail.0 result
-        (slices vs.new ts.new es.new) work.old work.new }
+    ensures does { Does (Adds count (slices vs.old ts.old es.old) lead.0 system.0 tail.0)
+        (equation_call n count (slices vs.old ts.old es.old) lead.0 system.0 tail.0) result
+        (slices vs.new ts.new es.new) }
+    ensures work_after { work.new ≡ replicate (length work.old) 0 }
 {
     let r = equation_checked(n, vs, ts, es, count, work, lead, system, tail);
     zero_work(work);
@@ -161,7 +117,7 @@ fn normal_ready(
     p: Row,
     f: Row,
 ) -> Answer
-    requires { (Ready n count (slices vs.old ts.old es.old) work.old) × (words_needed (length vs.old) ≤ length work.old) }
+    requires { (Live n count (slices vs.old ts.old es.old) work.old) × (n ≤ 1024) }
     ensures { Does (Reduced count (slices vs.old ts.old es.old) p.0 f.0)
         (normal_checked n count (slices vs.old ts.old es.old) p.0 f.0) result
         (slices vs.new ts.new es.new) }
@@ -175,51 +131,8 @@ fn normal_ready(
     if f.0 == 0 {
         return Answer::Refused(4);
     }
-    forget(vs.len(), work);
     let made = reduce(vs, ts, es, work, n as u16, count, p, f);
     finish(vs, ts, es, count, made)
-}
-
-// In a working slice that is long enough.
-fn normal_in(
-    n: usize,
-    vs: &mut [u16],
-    ts: &mut [u16],
-    es: &mut [u16],
-    count: usize,
-    work: &mut [u64],
-    p: Row,
-    f: Row,
-) -> Answer
-    requires { words_needed (length vs.old) ≤ length work.old }
-    ensures { Does (Reduced count (slices vs.old ts.old es.old) p.0 f.0)
-        (normal_call n count (slices vs.old ts.old es.old) p.0 f.0) result
-        (slices vs.new ts.new es.new) }
-{
-    let table = check(n, vs, ts, es, count, work);
-    match table {
-        Table::OutOfRange => Answer::Refused(1),
-        Table::Unsound => Answer::Refused(2),
-        Table::Fine => normal_ready(n, vs, ts, es, count, work, p, f),
-    }
-}
-
-// In an array of its own.
-fn normal_apart(
-    n: usize,
-    vs: &mut [u16],
-    ts: &mut [u16],
-    es: &mut [u16],
-    count: usize,
-    p: Row,
-    f: Row,
-) -> Answer
-    ensures { Does (Reduced count (slices vs.old ts.old es.old) p.0 f.0)
-        (normal_call n count (slices vs.old ts.old es.old) p.0 f.0) result
-        (slices vs.new ts.new es.new) }
-{
-    let mut own = [0u64; 74752];
-    normal_in(n, vs, ts, es, count, &mut own, p, f)
 }
 
 fn normal_checked(
@@ -236,10 +149,12 @@ fn normal_checked(
         (normal_call n count (slices vs.old ts.old es.old) p.0 f.0) result
         (slices vs.new ts.new es.new) }
 {
-    if work.len() < words_needed(vs.len()) {
-        return normal_apart(n, vs, ts, es, count, p, f);
+    let table = check(n, vs, ts, es, count, work);
+    match table {
+        Table::OutOfRange => Answer::Refused(1),
+        Table::Unsound => Answer::Refused(2),
+        Table::Fine => normal_ready(n, vs, ts, es, count, work, p, f),
     }
-    normal_in(n, vs, ts, es, count, work, p, f)
 }
 
 // The normal form of p by the system f.
@@ -253,8 +168,10 @@ pub fn normal_form(
     p: Row,
     f: Row,
 ) -> Answer
-    ensures { GivesNormalForm n count (slices vs.old ts.old es.old) p.0 f.0 result
-        (slices vs.new ts.new es.new) work.old work.new }
+    ensures does { Does (Reduced count (slices vs.old ts.old es.old) p.0 f.0)
+        (normal_call n count (slices vs.old ts.old es.old) p.0 f.0) result
+        (slices vs.new ts.new es.new) }
+    ensures work_after { work.new ≡ replicate (length work.old) 0 }
 {
     let r = normal_checked(n, vs, ts, es, count, work, p, f);
     zero_work(work);

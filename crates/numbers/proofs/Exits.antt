@@ -1,6 +1,6 @@
 -- The ways out of the calls.
 use Prim.Native.Nat.{ℕ, ◌+◌, ◌<◌, ◌≤◌}
-use mathlib.Core.Path.{◌≡◌, refl, sym, ap, subst, ◌∙◌}
+use mathlib.Core.Path.{◌≡◌, refl, sym, ap, ◌∙◌}
 use mathlib.Core.Bool.{Bool, true, false}
 use mathlib.Core.List.{List}
 use native.Mathlib.Omega.{arith}
@@ -11,7 +11,6 @@ use borrow.Author.Tests.{lt-ltb, le-ltb, eq-eqb, ne_eqb}
 use Rattle.steps.specs.Rows.{value}
 use Rattle.steps.specs.Sound.{sound}
 use Rattle.steps.specs.Table.{Slices, rows_of}
-use Rattle.steps.proofs.Sound.{sound_true}
 use Rattle.assignments.specs.Bytes.{assigned, bytes_of}
 use Rattle.numbers.specs.Calls.{variable_checked, variable_call, value_checked, value_call, OneLeft, one_left, one_checked, one_call, all_bits}
 use Rattle.assignments.specs.Inner.{Lasting}
@@ -19,17 +18,15 @@ use Rattle.numbers.specs.declared.Sought.TheVariants.{One, NoOne}
 use Rattle.numbers.specs.declared.Valued.{Valued}
 use Rattle.numbers.specs.declared.Valued.TheVariants.{Value, NoValue}
 use Rattle.table.specs.Calls.{in_range, refuse, checked}
-use Rattle.checks.specs.Checks.{Finding}
-use Rattle.checks.proofs.Checking.{in_range_lent}
+use Rattle.checks.specs.Checks.{Checked}
 use Rattle.checks.proofs.Endings.{out_of_range, not_sound, all_fine}
+use Rattle.table.specs.Memory.{Live}
 use Rattle.checks.specs.declared.check.Table.{Table}
 use Rattle.checks.specs.declared.check.Table.TheVariants.{Fine, OutOfRange, Unsound}
 use Rattle.steps.specs.One.{one}
 
-pub fine_lasts : (N c : ℕ) (s : Slices) (t : Table) → Finding t N c s → t ≡ Fine → (bytes : List ℕ) → length bytes ≡ N → Lasting c s bytes
-fine_lasts N c s t d q bytes e =
-    let f = subst (λ (t : Table). Finding t N c s) q d in
-    record { lent = in_range_lent N c s f.0; sound = rw e (sound_true N (rows_of s c) f.1) }
+pub live_lasts : {N c : ℕ} {s : Slices} {work : List ℕ} → Live N c s work → (bytes : List ℕ) → length bytes ≡ N → Lasting c s bytes
+live_lasts {N} {c} {s} d bytes e = record { lent = d.indexed.lent; sound = rw e d.sound }
 
 -- the test of the bytes, from byte i on
 module _ (bytes : List ℕ) (i : ℕ) where
@@ -62,19 +59,19 @@ module _ (N c : ℕ) (s : Slices) (f : ℕ) (bytes : List ℕ) where
   unfolding value_call
   value_length h = rw (ne_eqb (length bytes) N h)
 
-  module _ (l : length bytes ≡ N) (t : Table) (d : Finding t N c s) where
+  module _ (l : length bytes ≡ N) {work : List ℕ} {t : Table} (d : Checked t N c s work) where
     value_checks : value_call N c s f bytes ≡ checked (in_range N c s) (sound N (rows_of s c)) NoValue (value_checked c s f bytes)
     unfolding value_call
     value_checks = rw (eq-eqb (length bytes) N l)
 
     pub value_range : t ≡ OutOfRange → value_call N c s f bytes ≡ NoValue 1
-    value_range q = value_checks ∙ out_of_range Valued N c s NoValue _ t d q
+    value_range q = value_checks ∙ out_of_range Valued N c s NoValue _ work t d q
 
     pub value_unsound : t ≡ Unsound → value_call N c s f bytes ≡ NoValue 2
-    value_unsound q = value_checks ∙ not_sound Valued N c s NoValue _ t d q
+    value_unsound q = value_checks ∙ not_sound Valued N c s NoValue _ work t d q
 
     pub value_fine : t ≡ Fine → {r : Valued} → value_checked c s f bytes ≡ r → value_call N c s f bytes ≡ r
-    value_fine q e = value_checks ∙ all_fine Valued N c s NoValue _ t d q ∙ e
+    value_fine q e = value_checks ∙ all_fine Valued N c s NoValue _ work t d q ∙ e
 
 -- and of finding a one
 module _ (N c : ℕ) (s : Slices) (f : ℕ) (bytes : List ℕ) where
@@ -92,7 +89,7 @@ module _ (N c : ℕ) (s : Slices) (f : ℕ) (bytes : List ℕ) where
   unfolding one_call
   one_length h = rw (ne_eqb (length bytes) N h)
 
-  module _ (l : length bytes ≡ N) (t : Table) (d : Finding t N c s) where
+  module _ (l : length bytes ≡ N) {work : List ℕ} {t : Table} (d : Checked t N c s work) where
     abbrev no : ℕ → OneLeft
     no why = one_left (NoOne why) bytes
 
@@ -101,13 +98,13 @@ module _ (N c : ℕ) (s : Slices) (f : ℕ) (bytes : List ℕ) where
     one_checks = rw (eq-eqb (length bytes) N l)
 
     pub one_range : t ≡ OutOfRange → one_call N c s f bytes ≡ one_left (NoOne 1) bytes
-    one_range q = one_checks ∙ out_of_range OneLeft N c s no _ t d q
+    one_range q = one_checks ∙ out_of_range OneLeft N c s no _ work t d q
 
     pub one_unsound : t ≡ Unsound → one_call N c s f bytes ≡ one_left (NoOne 2) bytes
-    one_unsound q = one_checks ∙ not_sound OneLeft N c s no _ t d q
+    one_unsound q = one_checks ∙ not_sound OneLeft N c s no _ work t d q
 
     pub one_fine : t ≡ Fine → {r : OneLeft} → one_checked (length bytes) c s f bytes ≡ r → one_call N c s f bytes ≡ r
-    one_fine q e = one_checks ∙ all_fine OneLeft N c s no _ t d q ∙ rw (← l) e
+    one_fine q e = one_checks ∙ all_fine OneLeft N c s no _ work t d q ∙ rw (← l) e
 
 pub variable_is : (N c : ℕ) (s : Slices) (v : ℕ) → variable_call N c s v ≡ checked (in_range N c s) (sound N (rows_of s c)) (λ why. refuse why s) (variable_checked N c s v)
 unfolding variable_call

@@ -1,4 +1,4 @@
--- What the calls variable, value and one answer, leave and mean, for all inputs.
+-- What the calls variable, value and one answer and leave, for all inputs. A call is one equation, so two outcomes that it allows coincide.
 -- Assumes nothing: these are definitions.
 use Rattle.std.specs.Prelude.{ℕ, ◌≡◌, Bool, true, ◌&&◌, not, List, [], ◌∷◌, eqb, ltb, length}
 use Rattle.steps.specs.Rows.{Assignment, value}
@@ -6,8 +6,7 @@ use Rattle.steps.specs.Sound.{sound}
 use Rattle.steps.specs.Table.{Slices, rows_of}
 use Rattle.steps.specs.Steps.{make}
 use Rattle.steps.specs.One.{one, NotGreater}
-use Rattle.table.specs.declared.Answer.{Answer}
-use Rattle.table.specs.Calls.{unless◌then◌else◌, checked, in_range, in_use, Left, refuse, take_steps, AllZeros, Appends}
+use Rattle.table.specs.Calls.{unless◌then◌else◌, checked, in_range, in_use, Left, refuse, take_steps}
 use Rattle.assignments.specs.Bytes.{assigned, bytes_of}
 use Rattle.numbers.specs.declared.Valued.{Valued}
 use Rattle.numbers.specs.declared.Valued.TheVariants.{Value, NoValue}
@@ -20,14 +19,6 @@ variable_checked N c s v = unless ltb v N then refuse 5 s else take_steps (make 
 
 unfoldable pub variable_call : ℕ → ℕ → Slices → ℕ → Left
 variable_call N c s v = checked (in_range N c s) (sound N (rows_of s c)) (λ why. refuse why s) (variable_checked N c s v)
-
--- the number has, at every assignment, the value of the variable
-abbrev pub IsVariable : ℕ → ℕ → ℕ → Slices → Type 0
-IsVariable v k n s' = (a : Assignment) → value a (rows_of s' n) k ≡ a v
-
--- THE CONTRACT OF THE CALL variable
-abbrev pub MakesVariable : ℕ → ℕ → Slices → ℕ → Answer → Slices → List ℕ → List ℕ → Type 0
-MakesVariable N c s v r s' work work' = Appends (IsVariable v) (variable_call N c s v) c r s s' work work'
 
 -- whether all bytes are 0 or 1
 unfoldable pub all_bits : List ℕ → Bool
@@ -44,11 +35,6 @@ value_checked c s f bytes =
 -- "1: [..] assignment length not N"
 unfoldable pub value_call : ℕ → ℕ → Slices → ℕ → List ℕ → Valued
 value_call N c s f bytes = checked (eqb (length bytes) N && in_range N c s) (sound N (rows_of s c)) NoValue (value_checked c s f bytes)
-
--- THE CONTRACT OF THE CALL value
-pub record Evaluates (N c : ℕ) (s : Slices) (f : ℕ) (bytes : List ℕ) (r : Valued) (work work' : List ℕ) : Type 0 where
-  pub is : value_call N c s f bytes ≡ r
-  pub zeros : AllZeros work work'
 
 -- what finding a one answers, and the assignment that it leaves
 pub record OneLeft : Type 0 where
@@ -74,9 +60,3 @@ abbrev pub OneMeans : Sought → ℕ → Slices → ℕ → List ℕ → Type 0
 OneMeans One c s f bytes =
     (value (assigned bytes) (rows_of s c) f ≡ true) × ((a : Assignment) → value a (rows_of s c) f ≡ true → NotGreater (assigned bytes) a)
 OneMeans (NoOne why) c s f bytes = Unit {0}
-
--- THE CONTRACT OF THE CALL one
-pub record FindsOne (N c : ℕ) (s : Slices) (f : ℕ) (bytes : List ℕ) (r : Sought) (bytes' work work' : List ℕ) : Type 0 where
-  pub is : one_call N c s f bytes ≡ one_left r bytes'
-  pub means : OneMeans r c s f bytes'
-  pub zeros : AllZeros work work'

@@ -1,17 +1,15 @@
 // The public calls on a table that need no arithmetic: the variable x_v, the value of a number at an assignment, and a one of it.
-ghost use Rattle.std.specs.Prelude.{◌≡◌, ◌≤◌, length};
+ghost use Rattle.std.specs.Prelude.{◌≡◌, length, replicate};
 ghost use Rattle.steps.specs.Table.{slices};
-ghost use Rattle.table.specs.Index.{index_size};
-ghost use Rattle.checks.specs.Checks.{Ready};
+ghost use Rattle.table.specs.Memory.{Live};
 ghost use Rattle.table.specs.Calls.{left};
 ghost use Rattle.assignments.specs.Inner.{Lasting};
-ghost use Rattle.numbers.specs.Calls.{variable_checked, variable_call, MakesVariable, all_bits, value_checked, value_call, Evaluates, one_left, one_checked, one_call, FindsOne};
+ghost use Rattle.numbers.specs.Calls.{variable_checked, variable_call, all_bits, value_checked, value_call, one_left, one_checked, one_call, OneMeans};
 
 use assignments::evaluate::value_at;
 use assignments::seek::one_of;
-use checks::check::{Table, check, check_only};
+use checks::check::{Table, check};
 use checks::finish::finish;
-use table::index::index_size;
 use table::make::make;
 use table::rows::Node;
 use table::{Answer, Row, Var};
@@ -40,7 +38,7 @@ fn variable_ready(
     work: &mut [u64],
     v: Var,
 ) -> Answer
-    requires { Ready n count (slices vs.old ts.old es.old) work.old }
+    requires { Live n count (slices vs.old ts.old es.old) work.old }
     ensures { variable_checked n count (slices vs.old ts.old es.old) v.0 ≡ left result
         (slices vs.new ts.new es.new) }
 {
@@ -62,44 +60,6 @@ fn variable_ready(
     finish(vs, ts, es, count, made)
 }
 
-// In a working slice that has room for an index.
-fn variable_in(
-    n: usize,
-    vs: &mut [u16],
-    ts: &mut [u16],
-    es: &mut [u16],
-    count: usize,
-    work: &mut [u64],
-    v: Var,
-) -> Answer
-    requires { index_size (length vs.old) ≤ length work.old }
-    ensures { variable_call n count (slices vs.old ts.old es.old) v.0 ≡ left result
-        (slices vs.new ts.new es.new) }
-{
-    let table = check(n, vs, ts, es, count, work);
-    match table {
-        Table::OutOfRange => Answer::Refused(1),
-        Table::Unsound => Answer::Refused(2),
-        Table::Fine => variable_ready(n, vs, ts, es, count, work, v),
-    }
-}
-
-// In an array of its own.
-fn variable_apart(
-    n: usize,
-    vs: &mut [u16],
-    ts: &mut [u16],
-    es: &mut [u16],
-    count: usize,
-    v: Var,
-) -> Answer
-    ensures { variable_call n count (slices vs.old ts.old es.old) v.0 ≡ left result
-        (slices vs.new ts.new es.new) }
-{
-    let mut own = [0u64; 8192];
-    variable_in(n, vs, ts, es, count, &mut own, v)
-}
-
 fn variable_checked(
     n: usize,
     vs: &mut [u16],
@@ -112,10 +72,12 @@ fn variable_checked(
     ensures { variable_call n count (slices vs.old ts.old es.old) v.0 ≡ left result
         (slices vs.new ts.new es.new) }
 {
-    if work.len() < index_size(vs.len()) {
-        return variable_apart(n, vs, ts, es, count, v);
+    let table = check(n, vs, ts, es, count, work);
+    match table {
+        Table::OutOfRange => Answer::Refused(1),
+        Table::Unsound => Answer::Refused(2),
+        Table::Fine => variable_ready(n, vs, ts, es, count, work, v),
     }
-    variable_in(n, vs, ts, es, count, work, v)
 }
 
 // The variable x_v.
@@ -128,8 +90,9 @@ pub fn variable(
     work: &mut [u64],
     v: Var,
 ) -> Answer
-    ensures { MakesVariable n count (slices vs.old ts.old es.old) v.0 result
-        (slices vs.new ts.new es.new) work.old work.new }
+    ensures v_value { variable_call n count (slices vs.old ts.old es.old) v.0 ≡ left result
+        (slices vs.new ts.new es.new) }
+    ensures work_after { work.new ≡ replicate (length work.old) 0 }
 {
     let r = variable_checked(n, vs, ts, es, count, work, v);
     zero_work(work);
@@ -178,7 +141,7 @@ fn value_checked(
     if bytes.len() != n {
         return Valued::NoValue(1);
     }
-    let table = check_only(n, vs, ts, es, count, work);
+    let table = check(n, vs, ts, es, count, work);
     match table {
         Table::OutOfRange => Valued::NoValue(1),
         Table::Unsound => Valued::NoValue(2),
@@ -197,8 +160,8 @@ pub fn value(
     f: Row,
     bytes: &[u8],
 ) -> Valued
-    ensures { Evaluates n count (slices vs.now ts.now es.now) f.0 bytes.now result
-        work.old work.new }
+    ensures bytes_value { value_call n count (slices vs.now ts.now es.now) f.0 bytes.now ≡ result }
+    ensures work_after { work.new ≡ replicate (length work.old) 0 }
 {
     let r = value_checked(n, vs, ts, es, count, work, f, bytes);
     zero_work(work);
@@ -236,7 +199,7 @@ fn one_checked(
     if bytes.len() != n {
         return Sought::NoOne(1);
     }
-    let table = check_only(n, vs, ts, es, count, work);
+    let table = check(n, vs, ts, es, count, work);
     match table {
         Table::OutOfRange => Sought::NoOne(1),
         Table::Unsound => Sought::NoOne(2),
@@ -255,8 +218,10 @@ pub fn one(
     f: Row,
     bytes: &mut [u8],
 ) -> Sought
-    ensures { FindsOne n count (slices vs.now ts.now es.now) f.0 bytes.old result bytes.new
-        work.old work.new }
+    ensures bytes_value { one_call n count (slices vs.now ts.now es.now) f.0 bytes.old ≡ one_left result
+        bytes.new }
+    ensures one_means { OneMeans result count (slices vs.now ts.now es.now) f.0 bytes.new }
+    ensures work_after { work.new ≡ replicate (length work.old) 0 }
 {
     let r = one_checked(n, vs, ts, es, count, work, f, bytes);
     zero_work(work);

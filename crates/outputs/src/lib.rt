@@ -1,9 +1,8 @@
 // For the program: every output of a circuit is judged from one system, which is built once. Nothing here is a call of the scope; each verdict is the circuit
 // call's, from an empty table of the same size.
-ghost use Rattle.std.specs.Prelude.{◌≤◌, length, take};
+ghost use Rattle.std.specs.Prelude.{length, take};
 ghost use Rattle.steps.specs.Table.{slices};
-ghost use Rattle.table.specs.Memory.{words_needed};
-ghost use Rattle.checks.specs.Checks.{Ready};
+ghost use Rattle.table.specs.Memory.{Live};
 ghost use Rattle.aiger.specs.Answers as net;
 ghost use Rattle.gates.specs.Inner.{NetAsked};
 ghost use Rattle.outputs.specs.Inner.{Builds, output_from, FromAsked, Ended, OutputOf, JudgedAs};
@@ -17,7 +16,6 @@ use gates::system::{build, literal};
 use reduction::reduce;
 use table::Row;
 use table::make::Made;
-use table::memory::forget;
 
 fn system_ready(
     h: Sizes,
@@ -31,15 +29,13 @@ fn system_ready(
     es: &mut [u16],
     work: &mut [u64],
 ) -> Made
-    requires net_asked { (NetAsked (slices vs.old ts.old es.old) h (net.slices ins.now outs.now lefts.now rights0.now rights1.now)) ×
-        (Ready h.vars 0 (slices vs.old ts.old es.old) work.old) }
-    requires vs_in_bounds { words_needed (length vs.old) ≤ length work.old }
+    requires { (NetAsked (slices vs.old ts.old es.old) h (net.slices ins.now outs.now lefts.now rights0.now rights1.now)) ×
+        (Live h.vars 0 (slices vs.old ts.old es.old) work.old) }
     ensures { Builds result (slices vs.old ts.old es.old) (slices vs.new ts.new es.new) h
         (net.slices ins.now outs.now lefts.now rights0.now rights1.now) }
 {
     let n = h.vars;
     let gates = h.gates as usize;
-    forget(vs.len(), work);
     build(vs, ts, es, work, n, lefts, rights0, rights1, gates)
 }
 
@@ -56,8 +52,7 @@ pub fn system(
     es: &mut [u16],
     work: &mut [u64],
 ) -> Made
-    requires net_asked { NetAsked (slices vs.old ts.old es.old) h (net.slices ins.now outs.now lefts.now rights0.now rights1.now) }
-    requires vs_in_bounds { words_needed (length vs.old) ≤ length work.old }
+    requires { NetAsked (slices vs.old ts.old es.old) h (net.slices ins.now outs.now lefts.now rights0.now rights1.now) }
     ensures { Builds result (slices vs.old ts.old es.old) (slices vs.new ts.new es.new) h
         (net.slices ins.now outs.now lefts.now rights0.now rights1.now) }
 {
@@ -117,9 +112,8 @@ pub fn judge(
     o: usize,
     pattern: &mut [u8],
 ) -> Judged
-    requires output_of { OutputOf (slices vs.old ts.old es.old) h (net.slices ins.now outs.now lefts.now rights0.now rights1.now) count system.0 o
+    requires { OutputOf (slices vs.old ts.old es.old) h (net.slices ins.now outs.now lefts.now rights0.now rights1.now) count system.0 o
         (length pattern.old) }
-    requires vs_in_bounds { words_needed (length vs.old) ≤ length work.old }
     ensures { JudgedAs
         (net.net_in h (net.slices ins.now outs.now lefts.now rights0.now rights1.now)) o result
         count (slices vs.old ts.old es.old) (slices vs.new ts.new es.new)
@@ -130,7 +124,6 @@ pub fn judge(
         Table::Fine => {
             let n = h.vars;
             let l = Lit(outs[o]);
-            forget(vs.len(), work);
             judge_from(vs, ts, es, work, n, count, l, system, ins, pattern)
         }
         Table::OutOfRange => Judged::RoomOut,

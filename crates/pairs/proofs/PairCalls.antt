@@ -1,15 +1,14 @@
--- The ways out of a call on two numbers, and that it allows one outcome.
-use Prim.Native.Nat.{ℕ, suc, ◌+◌, ◌<◌, ◌≤◌}
+-- The ways out of a call on two numbers.
+use Prim.Native.Nat.{ℕ, ◌+◌, ◌<◌, ◌≤◌}
 use mathlib.Core.Path.{◌≡◌, refl, ap}
-use mathlib.Core.Bool.{Bool, ◌&&◌}
+use mathlib.Core.Bool.{Bool}
 use mathlib.Core.List.{List}
 use native.Mathlib.Omega.{arith}
 use borrow.Author.Tests.{lt-ltb, le-ltb}
 use Rattle.steps.specs.Rows.{Assignment, value}
-use Rattle.steps.specs.Sound.{Sound, sound}
+use Rattle.steps.specs.Sound.{sound}
 use Rattle.steps.specs.Table.{Slices, rows_of}
-use Rattle.steps.specs.Steps.{Steps, sum, product}
-use Rattle.steps.proofs.Keeps.{Keeps, keeps_sums, keeps_products}
+use Rattle.steps.specs.Steps.{Steps}
 use Rattle.steps.proofs.Table.{rows_of_next}
 use Rattle.steps.proofs.Theorems.{value_of_sum, value_of_product}
 use Rattle.table.specs.declared.Answer.{Answer}
@@ -18,12 +17,12 @@ use Rattle.table.specs.declared.make.Made.{Made}
 use Rattle.checks.specs.declared.check.Table.{Table}
 use Rattle.checks.specs.declared.check.Table.TheVariants.{Fine, OutOfRange, Unsound}
 use Rattle.table.specs.Lent.{Lent}
+use Rattle.table.specs.Memory.{Live}
 use Rattle.table.specs.Inner.{Taken, Kept}
 use Rattle.sums.proofs.Keeping.{kept_by}
 use Rattle.checks.specs.Checks.{Checked}
-use Rattle.table.specs.Calls.{in_range, in_use, left, refuse, take_steps, checked, finished, Stay}
-use Rattle.table.proofs.Leaves.{refused_stay, steps_stay, unless_stay, checked_stay, appends_unique}
-use Rattle.pairs.specs.Calls.{steps_of, op_of, pair_checked, pair_call, Means, Answered, sum_call, Sums, product_call, Multiplies}
+use Rattle.table.specs.Calls.{in_range, left, refuse, checked, finished}
+use Rattle.pairs.specs.Calls.{steps_of, op_of, pair_checked, pair_call, Means, Answered}
 use Rattle.pairs.specs.declared.Operation.{Operation}
 use Rattle.pairs.specs.declared.Operation.TheVariants.{Sum, Product}
 use Rattle.checks.proofs.CallEnds.{does_made, does_range, does_unsound, does_fine}
@@ -46,10 +45,10 @@ pub kept_as : (asked op : Operation) (N f g : ℕ) {r : Made} {c : ℕ} {s s' : 
 kept_as asked op N f g {c = c} {s} q d = kept_by (ap (λ (o : Operation). steps_of o N f g (rows_of s c)) q) d
 
 -- the value of what an operation makes
-pub operation_law : (op : Operation) (N c : ℕ) (s : Slices) (f g : ℕ) → Sound N (rows_of s c) → f < c + 2 → g < c + 2 → (a : Assignment)
+pub operation_law : (op : Operation) (N c : ℕ) (s : Slices) (work : List ℕ) (f g : ℕ) → Live N c s work → f < c + 2 → g < c + 2 → (a : Assignment)
     → value a (steps_of op N f g (rows_of s c)).rows (steps_of op N f g (rows_of s c)).num ≡ op_of op (value a (rows_of s c) f) (value a (rows_of s c) g)
-operation_law Sum N c s f g d uf ug a = value_of_sum N (rows_of s c) d f g (omega (arith, rows_of_next s c)) (omega (arith, rows_of_next s c)) a
-operation_law Product N c s f g d uf ug a = value_of_product N (rows_of s c) d f g (omega (arith, rows_of_next s c)) (omega (arith, rows_of_next s c)) a
+operation_law Sum N c s work f g d uf ug a = value_of_sum N (rows_of s c) d.sound f g (omega (arith, rows_of_next s c)) (omega (arith, rows_of_next s c)) a
+operation_law Product N c s work f g d uf ug a = value_of_product N (rows_of s c) d.sound f g (omega (arith, rows_of_next s c)) (omega (arith, rows_of_next s c)) a
 
 pair_is : (N : ℕ) (m : Steps) (c : ℕ) (s : Slices) (f g : ℕ) → pair_call N m c s f g ≡ checked (in_range N c s) (sound N (rows_of s c)) (λ why. refuse why s) (pair_checked m c s f g)
 unfolding pair_call
@@ -64,25 +63,3 @@ module _ (op : Bool → Bool → Bool) (N : ℕ) (m : Steps) (c : ℕ) (s : Slic
 
   pub pair_fine : t ≡ Fine → {r : Answer} {s' : Slices} → Answered op (pair_checked m c s f g) r c s s' f g → Answered op (pair_call N m c s f g) r c s s' f g
   pair_fine = does_fine (Means op c s f g) N c s (pair_call N m c s f g) (pair_checked m c s f g) (pair_is N m c s f g) d
-
--- the rows in use stay as they were
-pair_stays : (N : ℕ) (m : Steps) (c : ℕ) (s : Slices) (f g : ℕ) → Keeps m → Stay c s (pair_call N m c s f g).table
-unfolding pair_call
-pair_stays N m c s f g keeps =
-    checked_stay c s (in_range N c s) (sound N (rows_of s c)) (pair_checked m c s f g)
-    (unless_stay c s (in_use c f && in_use c g) (refuse 3 s) (take_steps m c s) (refused_stay c s 3) (steps_stay c s m keeps))
-
-module _ (N c : ℕ) (s : Slices) (f g : ℕ) where
-  pub sum_stays : Stay c s (sum_call N c s f g).table
-  sum_stays = pair_stays N (sum N f g) c s f g (keeps_sums N (suc N) f g)
-
-  pub product_stays : Stay c s (product_call N c s f g).table
-  product_stays = pair_stays N (product N f g) c s f g (keeps_products N (suc N) f g)
-
-  -- "Uniqueness is proved: any two outcomes a contract allows coincide."
-  module _ {r r' : Answer} {t t' : Slices} {work w w' : List ℕ} where
-    pub sum_unique : Sums N c s f g r t work w → Sums N c s f g r' t' work w' → (r ≡ r') × (t ≡ t') × (w ≡ w')
-    sum_unique = appends_unique
-
-    pub product_unique : Multiplies N c s f g r t work w → Multiplies N c s f g r' t' work w' → (r ≡ r') × (t ≡ t') × (w ≡ w')
-    product_unique = appends_unique

@@ -1,13 +1,13 @@
 -- What the calls sum and product answer, leave and mean, for all inputs.
 -- Assumes nothing: these are definitions.
-use Rattle.std.specs.Prelude.{ℕ, ◌≡◌, Bool, ◌&&◌, List}
+use Rattle.std.specs.Prelude.{ℕ, ◌≡◌, Bool, ◌&&◌}
 use Rattle.std.specs.Bool.{xor}
 use Rattle.steps.specs.Rows.{Assignment, value}
 use Rattle.steps.specs.Sound.{sound}
 use Rattle.steps.specs.Table.{Slices, rows_of}
 use Rattle.steps.specs.Steps.{Steps, sum, product}
 use Rattle.table.specs.declared.Answer.{Answer}
-use Rattle.table.specs.Calls.{unless◌then◌else◌, checked, in_range, in_use, Left, refuse, take_steps, Does, Appends}
+use Rattle.table.specs.Calls.{unless◌then◌else◌, checked, in_range, in_use, Left, refuse, take_steps, Does}
 use Rattle.pairs.specs.declared.Operation.{Operation}
 use Rattle.pairs.specs.declared.Operation.TheVariants.{Sum, Product}
 
@@ -38,14 +38,6 @@ Answered op call r c s s' f g = Does (Means op c s f g) call r s'
 abbrev pub sum_call : ℕ → ℕ → Slices → ℕ → ℕ → Left
 sum_call N c s f g = pair_call N (sum N f g) c s f g
 
--- THE CONTRACT OF THE CALL sum
-abbrev pub Sums : ℕ → ℕ → Slices → ℕ → ℕ → Answer → Slices → List ℕ → List ℕ → Type 0
-Sums N c s f g r s' work work' = Appends (Means xor c s f g) (sum_call N c s f g) c r s s' work work'
-
 -- the product f·g
 abbrev pub product_call : ℕ → ℕ → Slices → ℕ → ℕ → Left
 product_call N c s f g = pair_call N (product N f g) c s f g
-
--- THE CONTRACT OF THE CALL product
-abbrev pub Multiplies : ℕ → ℕ → Slices → ℕ → ℕ → Answer → Slices → List ℕ → List ℕ → Type 0
-Multiplies N c s f g r s' work work' = Appends (Means ◌&&◌ c s f g) (product_call N c s f g) c r s s' work work'

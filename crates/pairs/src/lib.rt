@@ -1,16 +1,15 @@
 // The calls sum and product. They differ in the written steps that are taken, and in nothing else.
-ghost use Rattle.std.specs.Prelude.{◌≤◌, length};
+ghost use Rattle.std.specs.Prelude.{◌≡◌, ◌&&◌, ◌≤◌, length, replicate};
+ghost use Rattle.std.specs.Bool.{xor};
 ghost use Rattle.steps.specs.Table.{slices};
 ghost use Rattle.table.specs.Inner.{Kept};
-ghost use Rattle.table.specs.Memory.{words_needed};
-ghost use Rattle.checks.specs.Checks.{Ready};
+ghost use Rattle.table.specs.Memory.{Live};
 ghost use Rattle.sums.specs.Inner.{Pair};
-ghost use Rattle.pairs.specs.Calls.{steps_of, op_of, pair_checked, pair_call, Answered, Sums, Multiplies};
+ghost use Rattle.pairs.specs.Calls.{steps_of, op_of, pair_checked, pair_call, sum_call, product_call, Answered};
 
 use checks::check::{Table, check};
 use checks::finish::finish;
 use table::make::Made;
-use table::memory::{forget, words_needed};
 use table::{Answer, Row};
 use zeros::zero_work;
 
@@ -54,7 +53,7 @@ fn pair_ready(
     f: Row,
     g: Row,
 ) -> Answer
-    requires { (Ready n count (slices vs.old ts.old es.old) work.old) × (words_needed (length vs.old) ≤ length work.old) }
+    requires { (Live n count (slices vs.old ts.old es.old) work.old) × (n ≤ 1024) }
     ensures { Answered (op_of op)
         (pair_checked (steps_of op n f.0 g.0) count (slices vs.old ts.old es.old) f.0 g.0) result count
         (slices vs.old ts.old es.old) (slices vs.new ts.new es.new) f.0 g.0 }
@@ -65,53 +64,8 @@ fn pair_ready(
     if count + 2 <= g.0 as usize {
         return Answer::Refused(3);
     }
-    forget(vs.len(), work);
     let made = take_steps(op, vs, ts, es, work, n as u16, count, f, g);
     finish(vs, ts, es, count, made)
-}
-
-// In a working slice that is long enough.
-fn pair_in(
-    op: Operation,
-    n: usize,
-    vs: &mut [u16],
-    ts: &mut [u16],
-    es: &mut [u16],
-    count: usize,
-    work: &mut [u64],
-    f: Row,
-    g: Row,
-) -> Answer
-    requires { words_needed (length vs.old) ≤ length work.old }
-    ensures { Answered (op_of op)
-        (pair_call n (steps_of op n f.0 g.0) count (slices vs.old ts.old es.old) f.0 g.0) result count
-        (slices vs.old ts.old es.old) (slices vs.new ts.new es.new) f.0 g.0 }
-{
-    let table = check(n, vs, ts, es, count, work);
-    match table {
-        Table::OutOfRange => Answer::Refused(1),
-        Table::Unsound => Answer::Refused(2),
-        Table::Fine => pair_ready(op, n, vs, ts, es, count, work, f, g),
-    }
-}
-
-// In an array of its own.
-fn pair_apart(
-    op: Operation,
-    n: usize,
-    vs: &mut [u16],
-    ts: &mut [u16],
-    es: &mut [u16],
-    count: usize,
-    f: Row,
-    g: Row,
-) -> Answer
-    ensures { Answered (op_of op)
-        (pair_call n (steps_of op n f.0 g.0) count (slices vs.old ts.old es.old) f.0 g.0) result count
-        (slices vs.old ts.old es.old) (slices vs.new ts.new es.new) f.0 g.0 }
-{
-    let mut own = [0u64; 74752];
-    pair_in(op, n, vs, ts, es, count, &mut own, f, g)
 }
 
 fn pair_checked(
@@ -129,10 +83,12 @@ fn pair_checked(
         (pair_call n (steps_of op n f.0 g.0) count (slices vs.old ts.old es.old) f.0 g.0) result count
         (slices vs.old ts.old es.old) (slices vs.new ts.new es.new) f.0 g.0 }
 {
-    if work.len() < words_needed(vs.len()) {
-        return pair_apart(op, n, vs, ts, es, count, f, g);
+    let table = check(n, vs, ts, es, count, work);
+    match table {
+        Table::OutOfRange => Answer::Refused(1),
+        Table::Unsound => Answer::Refused(2),
+        Table::Fine => pair_ready(op, n, vs, ts, es, count, work, f, g),
     }
-    pair_in(op, n, vs, ts, es, count, work, f, g)
 }
 
 // The sum f + g.
@@ -146,8 +102,9 @@ pub fn sum(
     f: Row,
     g: Row,
 ) -> Answer
-    ensures { Sums n count (slices vs.old ts.old es.old) f.0 g.0 result
-        (slices vs.new ts.new es.new) work.old work.new }
+    ensures answered { Answered xor (sum_call n count (slices vs.old ts.old es.old) f.0 g.0) result count
+        (slices vs.old ts.old es.old) (slices vs.new ts.new es.new) f.0 g.0 }
+    ensures work_after { work.new ≡ replicate (length work.old) 0 }
 {
     let r = pair_checked(Operation::Sum, n, vs, ts, es, count, work, f, g);
     zero_work(work);
@@ -165,8 +122,9 @@ pub fn product(
     f: Row,
     g: Row,
 ) -> Answer
-    ensures { Multiplies n count (slices vs.old ts.old es.old) f.0 g.0 result
-        (slices vs.new ts.new es.new) work.old work.new }
+    ensures answered { Answered ◌&&◌ (product_call n count (slices vs.old ts.old es.old) f.0 g.0) result count
+        (slices vs.old ts.old es.old) (slices vs.new ts.new es.new) f.0 g.0 }
+    ensures work_after { work.new ≡ replicate (length work.old) 0 }
 {
     let r = pair_checked(Operation::Product, n, vs, ts, es, count, work, f, g);
     zero_work(work);

@@ -3,7 +3,6 @@ mod line;
 
 ghost use Rattle.std.specs.Prelude.{◌≤◌, length};
 ghost use Rattle.steps.specs.Table.{slices};
-ghost use Rattle.table.specs.Memory.{words_needed};
 ghost use Rattle.aiger.specs.Answers as net;
 ghost use Rattle.printing.specs.Inner.{Asked, Prints, PrintsRefusal};
 
@@ -32,9 +31,8 @@ pub fn print(
     pattern: &mut [u8],
     line: &mut [u8],
 ) -> usize
-    requires asked { Asked made (slices vs.old ts.old es.old) h (net.slices ins.now outs.now lefts.now rights0.now rights1.now) o
+    requires { Asked made (slices vs.old ts.old es.old) h (net.slices ins.now outs.now lefts.now rights0.now rights1.now) o
         (length pattern.old) (length line.old) }
-    requires vs_in_bounds { words_needed (length vs.old) ≤ length work.old }
     ensures { Prints made
         (slices vs.old ts.old es.old)
         (slices vs.new ts.new es.new)

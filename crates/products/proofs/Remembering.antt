@@ -4,7 +4,7 @@ use mathlib.Core.Path.{◌≡◌}
 use mathlib.Core.Bool.{◌&&◌}
 use mathlib.Core.List.{List}
 use native.Mathlib.Omega.{arith}
-use lib.ListN.{set}
+use lib.ListN.{length, set}
 use Rattle.steps.specs.Rows.{Rows, value}
 use Rattle.steps.specs.Steps.{answer, product}
 use Rattle.steps.specs.Table.{Slices, rows_of}
@@ -15,8 +15,7 @@ use Rattle.table.specs.declared.make.Made.TheVariants.{At}
 use Rattle.table.specs.declared.memory.Recalled.{Recalled}
 use Rattle.table.specs.declared.memory.Recalled.TheVariants.{At as Recalled-at}
 use Rattle.table.specs.Lent.{room}
-use Rattle.table.specs.Index.{index_size}
-use Rattle.table.specs.Memory.{key_of, Place, Recalls, Grows}
+use Rattle.table.specs.Memory.{key_of, Place, Recalls}
 use Rattle.table.specs.Inner.{Kept}
 use Rattle.table.proofs.Words.{steps_product}
 use Rattle.sums.specs.Inner.{Pair}
@@ -32,10 +31,10 @@ module _ (N c : ℕ) (s : Slices) (work : List ℕ) (f g : ℕ) (d : Pair N c s 
   right : Right N (product N f g) R 0 (λ a. value a R f && value a R g)
   right = product_right N R d.live.sound f g (omega (arith, rows_of_next s c, d.left)) (omega (arith, rows_of_next s c, d.right)) 0 (omega arith) (omega arith)
 
-  pub recalled : {r : Recalled} {k : Row} → r ≡ Recalled-at k → Recalls r (index_size (room s)) work key → product N f g (rows_of s c) ≡ answer k.0 (rows_of s c)
-  recalled = steps_recalled N c s work d.live 2 f g (omega arith) d.left d.right key z (omega arith) (product N f g) (steps_product N f g)
+  module _ (i : ℕ) (place : Place (room s) (length work) i) where
+    pub recalled : {r : Recalled} {k : Row} → r ≡ Recalled-at k → Recalls r work i key → product N f g (rows_of s c) ≡ answer k.0 (rows_of s c)
+    recalled = steps_recalled N c s work d.live 2 f g (omega arith) d.left d.right key z (omega arith) (product N f g) (steps_product N f g) i place
 
-  pub kept_remembered : (i : ℕ) → Place (index_size (room s)) work i → (k : Row) (n : ℕ) (s' : Slices) (work' : List ℕ) → Kept N (product N f g) (At k n) c s s' work work'
-      → (work'' : List ℕ) → Grows (index_size (room s')) (set work' i (key * 65536 + k.0)) work'' → Kept N (product N f g) (At k n) c s s' work work''
-  kept_remembered i place =
-      steps_remembered N c s work d.live 2 f g (omega arith) d.left d.right key z (omega arith) (product N f g) (steps_product N f g) i place (λ e. absurd (omega arith)) _ right
+    pub kept_remembered : (k : Row) (n : ℕ) (s' : Slices) (work' : List ℕ) → Kept N (product N f g) (At k n) c s s' work work'
+        → (work'' : List ℕ) → set work' i (key * 65536 + k.0) ≡ work'' → Kept N (product N f g) (At k n) c s s' work work''
+    kept_remembered = steps_remembered N c s work d.live 2 f g (omega arith) d.left d.right key z (omega arith) (product N f g) (steps_product N f g) i place (λ e. absurd (omega arith)) _ right

@@ -65,14 +65,14 @@ pub fn product(
         return Made::At(f, count);
     }
     let key = key(PRODUCT, f, g);
-    let i = place(vs.len(), work, key);
-    if let Recalled::At(k) = recall(vs.len(), work, i, key) {
+    let i = place(vs.len(), work.len(), key);
+    if let Recalled::At(k) = recall(work, i, key) {
         return Made::At(k, count);
     }
     let Made::At(k, c) = product_deep(vs, ts, es, work, n, count, f, g) else {
         return Made::Full;
     };
-    remember(vs.len(), work, i, key, k);
+    remember(work, i, key, k);
     Made::At(k, c)
 }
 

@@ -5,7 +5,7 @@ use mathlib.Core.Bool.{◌&&◌, xor}
 use mathlib.Core.List.{List}
 use native.Mathlib.Omega.{arith}
 use native.Mathlib.Nat.{le-min, min-le_left, min-eq_left}
-use lib.ListN.{set}
+use lib.ListN.{length, set}
 use Rattle.steps.specs.Rows.{Row as Triple, row_of, next, row, root, value}
 use Rattle.steps.specs.Steps.{answer, ◌>>=◌, make, sum, product, normal}
 use Rattle.steps.specs.Table.{Slices, rows_of}
@@ -23,8 +23,7 @@ use Rattle.table.specs.declared.memory.Recalled.{Recalled}
 use Rattle.table.specs.declared.memory.Recalled.TheVariants.{At as Recalled-at}
 use Rattle.table.specs.Lent.{room, Numbered}
 use Rattle.table.specs.Index.{Indexed}
-use Rattle.table.specs.Index.{index_size}
-use Rattle.table.specs.Memory.{steps_of, key_of, Place, Recalls, Grows}
+use Rattle.table.specs.Memory.{steps_of, key_of, Place, Recalls}
 use Rattle.table.specs.Inner.{Entered, Kept}
 use Rattle.table.proofs.Takes.{taken_rows}
 use Rattle.table.proofs.Words.{steps_normal}
@@ -64,7 +63,7 @@ module _ (N c : ℕ) (s : Slices) (work : List ℕ) (p f : ℕ) (d : Reducing N 
     formed = stepped right e
 
     still_by : Reducing N n s' work' f
-    still_by = reducing_keeps N c s work f d n s' work' formed.grown (formed.still f d.system.used) e.taken.vars e.carries e.live
+    still_by = reducing_keeps N c s work f d n s' work' formed.grown (formed.still f d.system.used) e.taken.vars e.behind e.live
 
     formed_above : (v : ℕ) → v < root N (rows_of s c) p → v < root N (rows_of s c) f → v < root N (rows_of s' n) k.0
     formed_above v lp lf = rw (taken_rows e.taken) at (right_by (suc v) lp lf).above
@@ -117,14 +116,15 @@ module _ (N c : ℕ) (s : Slices) (work : List ℕ) (p f : ℕ) (d : Reduces N c
         is_normal : (a b : ℕ) → steps_of N 3 a b ≡ normal N a b
         is_normal a b = steps_normal N 3 a b (omega arith) (omega arith)
 
-        pub form_recalled : {r : Recalled} {n : Row} → r ≡ Recalled-at n → Recalls r (index_size (room s)) work key → normal N p f (rows_of s c) ≡ answer n.0 (rows_of s c)
-        form_recalled e h = same ∙ steps_recalled N c s work d.by.live 3 p g (omega arith) d.used by.system.used key z (omega arith) (normal N p g) (is_normal p g) e h
+        module _ (i : ℕ) (place : Place (room s) (length work) i) where
+          pub form_recalled : {r : Recalled} {n : Row} → r ≡ Recalled-at n → Recalls r work i key → normal N p f (rows_of s c) ≡ answer n.0 (rows_of s c)
+          form_recalled e h = same ∙ steps_recalled N c s work d.by.live 3 p g (omega arith) d.used by.system.used key z (omega arith) (normal N p g) (is_normal p g) i place e h
 
-        pub form_remembered : (i : ℕ) → Place (index_size (room s)) work i → (n : Row) (c' : ℕ) (s' : Slices) (work' : List ℕ) → Kept N (normal N p g) (Made-at n c') c s s' work work'
-            → (work'' : List ℕ) → Grows (index_size (room s')) (set work' i (key * 65536 + n.0)) work'' → Kept N (normal N p f) (Made-at n c') c s s' work work''
-        form_remembered i place n c' s' work' e work'' w =
-            kept_by same (steps_remembered N c s work d.by.live 3 p g (omega arith) d.used by.system.used key z (omega arith) (normal N p g) (is_normal p g) i place
-            (λ o. by.system.not_0) _ (right N c s work p g by d.used) n c' s' work' e work'' w)
+          pub form_remembered : (n : Row) (c' : ℕ) (s' : Slices) (work' : List ℕ) → Kept N (normal N p g) (Made-at n c') c s s' work work'
+              → (work'' : List ℕ) → set work' i (key * 65536 + n.0) ≡ work'' → Kept N (normal N p f) (Made-at n c') c s s' work work''
+          form_remembered n c' s' work' e work'' w =
+              kept_by same (steps_remembered N c s work d.by.live 3 p g (omega arith) d.used by.system.used key z (omega arith) (normal N p g) (is_normal p g) i place
+              (λ o. by.system.not_0) _ (right N c s work p g by d.used) n c' s' work' e work'' w)
 
 -- where the first lead is at p's root or behind it
 module _ (N c : ℕ) (s : Slices) (work : List ℕ) (p f : ℕ) (d : Reduces N c s work p f) (a : Proper N (rows_of s c) p f) where
@@ -344,4 +344,4 @@ module _ (N c : ℕ) (s : Slices) (work : List ℕ) (p f : ℕ) (d : Asked N c s
   reduce_asks = record { by = record { live = e.live; system = d.system; table = e.table }; used = d.used }
 
   pub reduce_done : {r : Made} {s' : Slices} {work'' : List ℕ} → Kept N (normal N p f) r c s s' work' work'' → Took N (normal N p f) r c s s' work work''
-  reduce_done k = record { taken = k.taken; live = k.live; same_length = k.carries.same_length ∙ e.same_length }
+  reduce_done k = record { taken = k.taken; live = k.live; same_length = k.behind.same_length ∙ e.same_length }

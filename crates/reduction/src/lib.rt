@@ -60,14 +60,14 @@ fn normal_form(
         return Made::At(p, count);
     }
     let key = key(NORMAL_FORM, p, g);
-    let i = place(vs.len(), work, key);
-    if let Recalled::At(k) = recall(vs.len(), work, i, key) {
+    let i = place(vs.len(), work.len(), key);
+    if let Recalled::At(k) = recall(work, i, key) {
         return Made::At(k, count);
     }
     let Made::At(k, c) = normal_deep(vs, ts, es, work, n, count, p, g) else {
         return Made::Full;
     };
-    remember(vs.len(), work, i, key, k);
+    remember(work, i, key, k);
     Made::At(k, c)
 }
 

@@ -16,11 +16,10 @@ use Rattle.table.specs.declared.Row.{Row}
 use Rattle.table.specs.declared.make.Made.{Made}
 use Rattle.table.specs.declared.make.Made.TheVariants.{At, Full}
 use Rattle.table.specs.Lent.{room}
-use Rattle.table.specs.Index.{index_size}
 use Rattle.table.specs.Memory.{Live}
 use Rattle.table.specs.Inner.{Entered, LiveAfter, Kept}
 use Rattle.table.proofs.Takes.{taken_by, taken_nothing, taken_then, taken_full, taken_rows}
-use Rattle.table.proofs.Words.{carries_refl, carries_trans, carries_front, live_grows}
+use Rattle.table.proofs.Words.{behind_refl, behind_trans, behind_front, live_grows}
 
 -- the answer as it is known after a match
 pub kept_is : {N : ℕ} {m : Steps} {r r' : Made} {c : ℕ} {s s' : Slices} {work work' : List ℕ} → r ≡ r' → Kept N m r c s s' work work' → Kept N m r' c s s' work work'
@@ -28,15 +27,15 @@ kept_is {N} {m} {c = c} {s} {s'} {work} {work'} p d = subst (λ (x : Made). Kept
 
 -- the same steps under another name
 pub kept_by : {N : ℕ} {m n : Steps} {r : Made} {c : ℕ} {s s' : Slices} {work work' : List ℕ} → m (rows_of s c) ≡ n (rows_of s c) → Kept N n r c s s' work work' → Kept N m r c s s' work work'
-kept_by e d = record { taken = taken_by e d.taken; live = d.live; carries = d.carries }
+kept_by e d = record { taken = taken_by e d.taken; live = d.live; behind = d.behind }
 
 -- nothing was appended
 pub kept_nothing : {N : ℕ} {m : Steps} {k : Row} {c : ℕ} {s : Slices} {work : List ℕ} → Live N c s work → m (rows_of s c) ≡ answer k.0 (rows_of s c) → Kept N m (At k c) c s s work work
-kept_nothing {s = s} {work = work} d e = record { taken = taken_nothing d.indexed.lent.used e; live = d; carries = carries_refl (index_size (room s)) work }
+kept_nothing {s = s} {work = work} d e = record { taken = taken_nothing d.indexed.lent.used e; live = d; behind = behind_refl (room s) work }
 
 -- no room: what comes after is not done
 pub kept_full : {N : ℕ} {m : Steps} {c : ℕ} {s s' : Slices} {work work' : List ℕ} (f : ℕ → Steps) → ((x : ℕ) → Keeps (f x)) → Kept N m Full c s s' work work' → Kept N (m >>= f) Full c s s' work work'
-kept_full f keeps d = record { taken = taken_full f keeps d.taken; live = tt; carries = d.carries }
+kept_full f keeps d = record { taken = taken_full f keeps d.taken; live = tt; behind = d.behind }
 
 -- one thing after another
 pub kept_then : {N : ℕ} {m : Steps} {k : Row} {r : Made} {c n : ℕ} {s s' s'' : Slices} {work work' work'' : List ℕ} (f : ℕ → Steps) → ((x : ℕ) → Keeps (f x))
@@ -44,7 +43,7 @@ pub kept_then : {N : ℕ} {m : Steps} {k : Row} {r : Made} {c n : ℕ} {s s' s''
 kept_then {s = s} {work = work} f keeps d e = record {
   taken = taken_then f keeps d.taken e.taken;
   live = e.live;
-  carries = carries_trans d.carries (rw d.taken.vars at e.carries);
+  behind = behind_trans d.behind (rw d.taken.vars at e.behind);
 }
 
 live_made : {N : ℕ} {m : Steps} (r : Made) {c : ℕ} {s s' : Slices} {work work' : List ℕ} → Live N c s work → Entered m r c s s' work work'
@@ -55,7 +54,7 @@ live_made Full d e g w = tt
 -- Make keeps what the inner functions ask, where the row that it makes fits
 pub kept_made : {N : ℕ} {m : Steps} {r : Made} {c : ℕ} {s s' : Slices} {work work' : List ℕ} → Live N c s work → Entered m r c s s' work work'
     → rows_of s c ≼ (m (rows_of s c)).rows → Sound N (m (rows_of s c)).rows → Kept N m r c s s' work work'
-kept_made {r = r} d e g w = record { taken = e.taken; live = live_made r d e g w; carries = carries_front e.front }
+kept_made {r = r} d e g w = record { taken = e.taken; live = live_made r d e g w; behind = behind_front e.front }
 
 -- steps that were taken in a live table
 pub record Step (N : ℕ) (c : ℕ) (s : Slices) (k n : ℕ) (s' : Slices) : Type 0 where

@@ -4,7 +4,7 @@ use mathlib.Core.Path.{◌≡◌, sym, ap, subst, ◌∙◌}
 use mathlib.Core.Bool.{Bool}
 use mathlib.Core.List.{List}
 use native.Mathlib.Omega.{arith}
-use lib.ListN.{set}
+use lib.ListN.{length, set}
 use Rattle.steps.specs.Rows.{Rows, Assignment}
 use Rattle.steps.specs.Steps.{Steps, answer}
 use Rattle.steps.specs.Table.{Slices, rows_of}
@@ -12,37 +12,27 @@ use Rattle.steps.proofs.Rows.{stop}
 use Rattle.steps.proofs.Table.{rows_of_next}
 use Rattle.steps.proofs.Theorems.{Right}
 use Rattle.table.specs.declared.Row.{Row}
-use Rattle.table.specs.declared.make.Made.{Made}
 use Rattle.table.specs.declared.make.Made.TheVariants.{At}
 use Rattle.table.specs.declared.memory.Recalled.{Recalled}
 use Rattle.table.specs.declared.memory.Recalled.TheVariants.{At as Recalled-at}
 use Rattle.table.specs.Lent.{room}
-use Rattle.table.specs.Index.{index_size}
-use Rattle.table.specs.Memory.{steps_of, key_of, Live, Memory, Remembered, Place, Recalls, Grows}
+use Rattle.table.specs.Memory.{steps_of, key_of, Live, Remembered, Place, Recalls}
 use Rattle.table.specs.Inner.{Kept}
 use Rattle.table.proofs.Takes.{taken_rows}
-use Rattle.table.proofs.Words.{live_small, live_recalls, live_set, live_larger, place_carried, carries_written, carries_trans}
-
--- what remembering asks: a place is still one after the steps
-place_after : {N : ℕ} {m : Steps} {r : Made} {c : ℕ} {s s' : Slices} {work work' : List ℕ} {i : ℕ} → Place (index_size (room s)) work i → Kept N m r c s s' work work' → Place (index_size (room s')) work' i
-place_after place e = rw e.taken.vars (place_carried e.carries place)
-
-pub remember_asks : {N : ℕ} {m : Steps} {k : Row} {c n : ℕ} {s s' : Slices} {work work' : List ℕ} {i key : ℕ} → Place (index_size (room s)) work i → Kept N m (At k n) c s s' work work' → key < 65536 * 65536 * 4
-    → Memory (index_size (room s')) work' × Place (index_size (room s')) work' i × (key < 65536 * 65536 * 4)
-remember_asks place e small = (e.live.memory, place_after place e, small)
+use Rattle.table.proofs.Words.{live_small, live_recalls, live_written, behind_written, behind_trans}
 
 -- the operation op on f and g, whose steps are m, with its key
 module _ (N c : ℕ) (s : Slices) (work : List ℕ) (live : Live N c s work) (op f g : ℕ) (known : op < 4) (uf : f < c + 2) (ug : g < c + 2) (key : ℕ) (z : key_of op f g ≡ key) where
   pub key_fits : key < 65536 * 65536 * 4
   key_fits = omega (arith, live_small N c s work live f uf, live_small N c s work live g ug)
 
-  module _ (some : 0 < op) (m : Steps) (is : steps_of N op f g ≡ m) where
-    pub steps_recalled : {r : Recalled} {k : Row} → r ≡ Recalled-at k → Recalls r (index_size (room s)) work key → m (rows_of s c) ≡ answer k.0 (rows_of s c)
+  module _ (some : 0 < op) (m : Steps) (is : steps_of N op f g ≡ m) (i : ℕ) (place : Place (room s) (length work) i) where
+    pub steps_recalled : {r : Recalled} {k : Row} → r ≡ Recalled-at k → Recalls r work i key → m (rows_of s c) ≡ answer k.0 (rows_of s c)
     steps_recalled {r} {k} e h =
-        let w = subst (λ (x : Recalled). Recalls x (index_size (room s)) work key) e h in
-        ap (λ (n : Steps). n (rows_of s c)) (sym is) ∙ live_recalls N c s work live op f g k.0 some known uf ug (rw z w)
+        let w = subst (λ (x : Recalled). Recalls x work i key) e h in
+        ap (λ (n : Steps). n (rows_of s c)) (sym is) ∙ live_recalls N c s work live op f g k.0 i some known uf ug place (rw z w)
 
-    module _ (i : ℕ) (place : Place (index_size (room s)) work i) (system : op ≡ 3 → g ≡ 0 → ⊥) (p : Assignment → Bool) (right : Right N m (rows_of s c) 0 p)
+    module _ (system : op ≡ 3 → g ≡ 0 → ⊥) (p : Assignment → Bool) (right : Right N m (rows_of s c) 0 p)
         (k : Row) (n : ℕ) (s' : Slices) (work' : List ℕ) (e : Kept N m (At k n) c s s' work work') where
       abbrev S : Rows
       S = rows_of s' n
@@ -64,12 +54,12 @@ module _ (N c : ℕ) (s : Slices) (work : List ℕ) (live : Live N c s work) (op
       small : k.0 < 65536
       small = live_small N n s' work' e.live k.0 (omega (arith, rows_of_next s' n, rw made at right.used))
 
-      place' : Place (index_size (room s')) work' i
-      place' = place_after place e
+      place' : Place (room s') (length work') i
+      place' = rw (e.taken.vars, e.behind.same_length) place
 
-      pub steps_remembered : (work'' : List ℕ) → Grows (index_size (room s')) (set work' i (key * 65536 + k.0)) work'' → Kept N m (At k n) c s s' work work''
+      pub steps_remembered : (work'' : List ℕ) → set work' i (key * 65536 + k.0) ≡ work'' → Kept N m (At k n) c s s' work work''
       steps_remembered work'' w = record {
         taken = e.taken;
-        live = live_larger N n s' _ (rw (← z) (live_set N n s' work' e.live op f g k.0 (omega (arith, more)) (omega (arith, more)) small word i place')) work'' w;
-        carries = carries_trans e.carries (rw e.taken.vars at (carries_written i (key * 65536 + k.0) place' w));
+        live = rw (← w, ← z) (live_written N n s' work' e.live op f g k.0 (omega (arith, more)) (omega (arith, more)) small word i place');
+        behind = behind_trans e.behind (rw (← w) (rw e.taken.vars at (behind_written (room s') work' i (key * 65536 + k.0) place')));
       }

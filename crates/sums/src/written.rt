@@ -46,14 +46,14 @@ pub fn sum(
         return Made::At(Row(0), count);
     }
     let key = sum_key(f, g);
-    let i = place(vs.len(), work, key);
-    if let Recalled::At(k) = recall(vs.len(), work, i, key) {
+    let i = place(vs.len(), work.len(), key);
+    if let Recalled::At(k) = recall(work, i, key) {
         return Made::At(k, count);
     }
     let Made::At(k, c) = sum_deep(vs, ts, es, work, n, count, f, g) else {
         return Made::Full;
     };
-    remember(vs.len(), work, i, key, k);
+    remember(work, i, key, k);
     Made::At(k, c)
 }
 

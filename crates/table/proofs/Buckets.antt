@@ -1,46 +1,66 @@
 -- The sizes of the index, its buckets, and the newest row of a bucket.
-use Prim.Native.Nat.{ℕ, suc, ◌*◌, ◌/◌, ◌<◌, ◌≤◌}
+use Prim.Native.Nat.{ℕ, suc, ◌<◌, ◌≤◌}
 use mathlib.Core.Path.{◌≡◌, refl, ap, ◌∙◌}
 use mathlib.Core.Bool.{Bool, true, false}
 use native.Mathlib.Omega.{arith}
-use native.Mathlib.Nat.{mod-lt, mul-le-mul_right}
+use native.Mathlib.Nat.{mod-lt}
 use lib.Dec.{eqb, ltb}
-use borrow.Author.Tests.{eq-eqb, ne_eqb, eqb-true, eqb-false, ltb-false}
+use borrow.Author.Tests.{lt-ltb, le-ltb, eq-eqb, ne_eqb, eqb-true, eqb-false, ltb-false}
 use Rattle.steps.specs.Rows.{Row, Rows, none, ◌▹◌, next, alike, find}
 use Rattle.steps.proofs.Rows.{◌≼◌, stop, more}
 use Rattle.steps.proofs.Found.{alike_true, find_other}
-use Rattle.table.specs.Index.{index_size, hash, bucket, newest_in}
+use Rattle.table.specs.Index.{index_size, index_words, hash, bucket, newest_in}
 
--- a part of so many, taken of a number below 2^32
-pub part_below : (h size : ℕ) → h < 4294967296 → 0 < size → h * size / 4294967296 < size
-part_below h size l p = let q : h * size ≤ 4294967295 * size = mul-le-mul_right size (omega arith) in omega arith
+-- an index has one of three sizes, and room for a word for each row
+pub data Sized (R : ℕ) : ℕ → Type 0 where
+  large : R ≤ 8192 → Sized R 8192
+  middle : R ≤ 1024 → Sized R 1024
+  least : R ≤ 64 → Sized R 64
 
--- an index has one of three sizes
-pub index_sizes : (R : ℕ) → (P : ℕ → Type 0) → P 8192 → (R ≤ 1024 → P 1024) → (R ≤ 64 → P 64) → P (index_size R)
+pub sized : (R : ℕ) → R ≤ 8192 → Sized R (index_size R)
 unfolding index_size
-index_sizes R P large middle least = go (ltb 1024 R) refl (ltb 64 R) refl
+sized R h = go (ltb 1024 R) refl (ltb 64 R) refl
   where
-    go : (a : Bool) → ltb 1024 R ≡ a → (b : Bool) → ltb 64 R ≡ b → P (index_size R)
-    go true x b y = rw (x, index_size) large
+    go : (a : Bool) → ltb 1024 R ≡ a → (b : Bool) → ltb 64 R ≡ b → Sized R (index_size R)
+    go true x b y = rw (x, index_size) (large h)
     go false x true y = rw (x, y, index_size) (middle (ltb-false 1024 R x))
     go false x false y = rw (x, y, index_size) (least (ltb-false 64 R y))
 
-pub index_room : (R : ℕ) → R ≤ 8192 → R ≤ index_size R
-index_room R h = index_sizes R (λ H. R ≤ H) h (λ l. l) (λ l. l)
+pub sized_room : {R H : ℕ} → Sized R H → R ≤ H
+sized_room (large h) = h
+sized_room (middle h) = h
+sized_room (least h) = h
 
-pub index_some : (R : ℕ) → 0 < index_size R
-index_some R = index_sizes R (λ H. 0 < H) (omega arith) (λ l. omega arith) (λ l. omega arith)
-
-pub index_most : (R : ℕ) → index_size R ≤ 8192
-index_most R = index_sizes R (λ H. H ≤ 8192) (omega arith) (λ l. omega arith) (λ l. omega arith)
-
--- a hash times a size fits a number of 64 bits
-pub part_fits : (h size : ℕ) → h < 4294967296 → size ≤ 4194304 → h * size < 18446744073709551616
-part_fits h size l m = let q : h * size ≤ 4294967295 * size = mul-le-mul_right size (omega arith) in omega arith
-
-pub bucket_below : (R : ℕ) (r : Row) → bucket (index_size R) r < index_size R
+pub sized_bucket : {R H : ℕ} → Sized R H → (r : Row) → bucket H r < H
 unfolding bucket
-bucket_below R r = part_below (hash r) (index_size R) (mod-lt _ (omega arith)) (index_some R)
+sized_bucket (large h) r = mod-lt (hash r) (omega arith)
+sized_bucket (middle h) r = mod-lt (hash r) (omega arith)
+sized_bucket (least h) r = mod-lt (hash r) (omega arith)
+
+-- the words of the index: none, or all
+pub data Spans (R L : ℕ) : ℕ → Type 0 where
+  no_index : Spans R L 0
+  index : (H : ℕ) → Sized R H → H ≤ L → Spans R L H
+
+pub spans : (R L : ℕ) → R ≤ 8192 → Spans R L (index_words R L)
+unfolding index_words
+spans R L h = go (ltb L (index_size R)) refl
+  where
+    go : (b : Bool) → ltb L (index_size R) ≡ b → Spans R L (index_words R L)
+    go true e = rw (e, index_words) no_index
+    go false e = rw (e, index_words) (index (index_size R) (sized R h) (ltb-false L (index_size R) e))
+
+pub spans_fits : {R L H : ℕ} → Spans R L H → H ≤ L
+spans_fits no_index = omega arith
+spans_fits (index H z f) = f
+
+pub spans_room : {R L H : ℕ} → Spans R L H → 0 < H → R ≤ H
+spans_room no_index p = absurd (omega arith)
+spans_room (index H z f) p = sized_room z
+
+pub spans_bucket : {R L H : ℕ} → Spans R L H → 0 < H → (r : Row) → bucket H r < H
+spans_bucket no_index p r = absurd (omega arith)
+spans_bucket (index H z f) p r = sized_bucket z r
 
 module _ (H : ℕ) where
   pub newest_here : (R : Rows) (r : Row) (b : ℕ) → bucket H r ≡ b → newest_in H b (R ▹ r) ≡ next R
@@ -89,3 +109,17 @@ module _ (H : ℕ) where
       go true e m ih q = rw (e, newest_in) (at R r stop (eqb-true (bucket H r) b e) (λ x p. refl))
       go false e m (nowhere f) q = rw (e, newest_in, q) (nowhere (λ x p. past (eqb-false (bucket H r) b e) x p ∙ f x p))
       go false e m (at S y le h f) q = rw (e, newest_in, q) (at S y (more le) h (λ x p. past (eqb-false (bucket H r) b e) x p ∙ f x p))
+
+-- the words of the index, from its size
+module _ (R L S : ℕ) (e : index_size R ≡ S) where
+  pub index_short : L < S → index_words R L ≡ 0
+  unfolding index_words
+  index_short h = rw (e, lt-ltb L S h, index_words)
+
+  pub index_long : S ≤ L → index_words R L ≡ S
+  unfolding index_words
+  index_long h = rw (e, le-ltb L S h, index_words)
+
+-- an index has room for every row
+pub index_room : (R L : ℕ) → R ≤ 8192 → 0 < index_words R L → R ≤ index_words R L
+index_room R L h p = spans_room (spans R L h) p

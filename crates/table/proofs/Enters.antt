@@ -12,9 +12,9 @@ use Rattle.steps.proofs.Table.{rows_of_count}
 use Rattle.table.specs.declared.Row.{Row}
 use Rattle.table.specs.declared.make.Made.{Made}
 use Rattle.table.specs.declared.make.Made.TheVariants.{At, Full}
-use Rattle.table.specs.Index.{index_size, Chains, Apart, Indexed, Belongs, link, Linkable, Front}
+use Rattle.table.specs.Index.{index_words, Chains, Apart, Indexed, enter, Linkable, Front}
 use Rattle.table.specs.Inner.{Taken, IndexOf, Entered}
-use Rattle.table.proofs.Links.{linkable, link_front, linked_chains, front_refl}
+use Rattle.table.proofs.Links.{linkable, enter_front, enter_chains, front_refl}
 use Rattle.table.proofs.Takes.{taken_by, taken_nothing, taken_lent, taken_rows, append_full}
 
 pub entered_by : {m n : Steps} {r : Made} {c : ℕ} {s s' : Slices} {work work' : List ℕ} → m (rows_of s c) ≡ n (rows_of s c) → Entered n r c s s' work work' → Entered m r c s s' work work'
@@ -45,19 +45,19 @@ module _ (vs ts es : List ℕ) (c v t e : ℕ) (work : List ℕ) (d : Indexed c 
   pub add_full : length vs ≤ c → Entered (append (row_of v t e)) Full c (slices vs ts es) (slices vs ts es) work work
   add_full h = record { taken = append_full vs ts es c v t e d.lent h; index = tt; front = front_refl _ _ }
 
-  module _ (h : c < length vs) (b : ℕ) (q : Belongs (length vs) (row_of v t e) b) where
+  module _ (h : c < length vs) (H : ℕ) (z : index_words (length vs) (length work) ≡ H) where
     free : count R < length vs
     free = omega (arith, rows_of_count s c)
 
-    pub add_linkable : Linkable b c work
-    add_linkable = rw (rows_of_count s c) at (linkable (length vs) work R d.lent.small free d.fits d.chains (row_of v t e) b q.is)
+    pub add_linkable : Linkable H c work
+    add_linkable = rw (rows_of_count s c, z) at (linkable (length vs) work R d.lent.small free d.chains)
 
-    module _ (work' : List ℕ) (w : link b c work ≡ work') where
+    module _ (work' : List ℕ) (q : enter H c (row_of v t e) work ≡ work') where
       pub added_front : Front (length vs) work work'
-      added_front = rw (rows_of_count s c, w) at (link_front (length vs) work R d.lent.small free d.fits d.chains (row_of v t e) b q.is)
+      added_front = rw (rows_of_count s c, z, q) at (enter_front (length vs) work R d.lent.small free d.chains (row_of v t e))
 
-      pub added_chains : Chains (index_size (length vs)) (rows_of (slices vs ts es) c ▹ row_of v t e) work'
-      added_chains = rw (rows_of_count s c, w) at (linked_chains (length vs) work R d.lent.small free d.fits d.chains (row_of v t e) b q.is)
+      pub added_chains : 0 < index_words (length vs) (length work') → Chains (index_words (length vs) (length work')) (rows_of (slices vs ts es) c ▹ row_of v t e) work'
+      added_chains = rw (rows_of_count s c, z, q) at (enter_chains (length vs) work R d.lent.small free d.chains (row_of v t e))
 
       added_index : (r : Made) (s' : Slices) → find R (row_of v t e) ≡ 0 → Taken (append (row_of v t e)) r c s s' → IndexOf r s' work'
       unfolding Apart
@@ -66,7 +66,6 @@ module _ (vs ts es : List ℕ) (c v t e : ℕ) (work : List ℕ) (d : Indexed c 
           record {
             lent = taken_lent d.lent g;
             apart = subst Apart rows (d.apart, new);
-            fits = rw g.vars (omega (arith, d.fits, added_front.same_length));
             chains = rw (g.vars, ← rows) added_chains;
           }
       added_index Full s' new g = tt

@@ -3,7 +3,5 @@ pub mod Links
 pub mod Walks
 pub mod Takes
 pub mod Ends
-pub mod Leaves
 pub mod Enters
-pub mod Sizes
 pub mod Words

@@ -7,10 +7,15 @@ use native.Mathlib.Nat.{mod-lt}
 use native.Mathlib.Decide.{ℕ_discrete}
 use lib.ListN.{length, get_or, set, drop, length-set}
 use lib.Seq.{get_or-drop, get_or-set_same, get_or-set_other, drop-set-lt}
+use borrow.Author.Tests.{eq-eqb, ne_eqb}
 use Rattle.steps.specs.Rows.{Row, Rows, none, ◌▹◌, count}
 use Rattle.steps.proofs.Rows.{next_count}
-use Rattle.table.specs.Index.{index_size, bucket, newest_in, Followed, Chains, link, Linkable, Front}
-use Rattle.table.proofs.Buckets.{index_room, bucket_below, newest_here, newest_other, newest_below}
+use Rattle.table.specs.Index.{index_words, bucket, newest_in, Followed, Chains, link, enter, Linkable, Front}
+use Rattle.table.proofs.Buckets.{Spans, spans, spans_fits, spans_room, spans_bucket, newest_here, newest_other, newest_below}
+
+-- a row's bucket is one of the index's words
+pub bucket_in : {H i : ℕ} {work : List ℕ} → Linkable H i work → (r : Row) {b : ℕ} → bucket H r ≡ b → 0 < H → b < H
+bucket_in l r q p = rw q at (l.buckets p r)
 
 -- words of two halves
 pub pack_high : (a l : ℕ) → l < 65536 → (a * 65536 + l) / 65536 ≡ a
@@ -98,7 +103,7 @@ pub front_refl : (R : ℕ) (work : List ℕ) → Front R work work
 front_refl R work = record { same_length = refl; rest = refl }
 
 pub front_trans : {R : ℕ} {work work' work'' : List ℕ} → Front R work work' → Front R work' work'' → Front R work work''
-front_trans p q = record { same_length = q.same_length ∙ p.same_length; rest = q.rest ∙ p.rest }
+front_trans p q = record { same_length = q.same_length ∙ p.same_length; rest = (rw p.same_length at q.rest) ∙ p.rest }
 
 -- lists that agree behind n agree at each place there
 pub behind_word : (n : ℕ) (l l' : List ℕ) → drop n l' ≡ drop n l → (i : ℕ) → n ≤ i → get_or l' i 0 ≡ get_or l i 0
@@ -106,32 +111,53 @@ behind_word n l l' e i h =
     let q : n + (i - n) ≡ i = omega arith in
     ap (λ (k : ℕ). get_or l' k 0) (sym q) ∙ sym (get_or-drop n l' (i - n) 0) ∙ ap (λ (m : List ℕ). get_or m (i - n) 0) e ∙ get_or-drop n l (i - n) 0 ∙ ap (λ (k : ℕ). get_or l k 0) q
 
+-- entering a row
+enter_none : (H i : ℕ) (r : Row) (work : List ℕ) → H ≡ 0 → enter H i r work ≡ work
+unfolding enter
+enter_none H i r work z = rw (eq-eqb H 0 z, enter)
+
+enter_some : (H i : ℕ) (r : Row) (work : List ℕ) → (H ≡ 0 → ⊥) → enter H i r work ≡ link (bucket H r) i work
+unfolding enter
+enter_some H i r work z = rw (ne_eqb H 0 z, enter)
+
+pub enter_not : (H i : ℕ) (r : Row) (work : List ℕ) → H ≡ 0 → enter H i r work ≡ work
+enter_not = enter_none
+
+pub enter_is : (H b i : ℕ) (r : Row) (work : List ℕ) → (H ≡ 0 → ⊥) → bucket H r ≡ b → enter H i r work ≡ link b i work
+enter_is H b i r work z q = rw (← q) (enter_some H i r work z)
+
 -- the rows R of a table of `rows` rows are indexed
-module _ (rows : ℕ) (work : List ℕ) (R : Rows) (small : rows ≤ 8192) (free : count R < rows) (fits : index_size rows ≤ length work) (chains : Chains (index_size rows) R work)
-    (x : Row) (b : ℕ) (q : bucket (index_size rows) x ≡ b) where
+module _ (rows : ℕ) (work : List ℕ) (R : Rows) (small : rows ≤ 8192) (free : count R < rows) (chains : 0 < index_words rows (length work) → Chains (index_words rows (length work)) R work) where
   abbrev H : ℕ
-  H = index_size rows
+  H = index_words rows (length work)
 
-  place : b < H
-  place = rw q at (bucket_below rows x)
+  here : Spans rows (length work) H
+  here = spans rows (length work) small
 
-  below : count R < H
-  below = omega (arith, index_room rows small)
+  heads_small : (b : ℕ) → b < H → get_or work b 0 / 65536 < 65536
+  heads_small b l = chains_small (chains (omega arith)) (omega arith) b l
 
-  pub linkable : Linkable b (count R) work
-  linkable = record {
-    bucket_there = omega (arith, place);
-    row_there = omega (arith, below);
-    small = omega arith;
-    bucket_small = chains_small chains (omega arith) b place;
-    row_small = chains_small chains (omega arith) (count R) below;
-  }
+  pub linkable : Linkable (index_words rows (length work)) (count R) work
+  linkable = record { fits = spans_fits here; buckets = spans_bucket here; row = λ p. omega (arith, spans_room here p); small = omega arith; heads = heads_small }
 
-  pub link_front : Front rows work (link b (count R) work)
-  link_front = record { same_length = length_link b (count R) work; rest = drop_link H b (count R) work place below }
+  module _ (x : Row) where
+    pub enter_front : Front rows work (enter (index_words rows (length work)) (count R) x work)
+    enter_front = go (ℕ_discrete H 0)
+      where
+        go : Dec (H ≡ 0) → Front rows work (enter H (count R) x work)
+        go (yes z) = rw (enter_none H (count R) x work z) (front_refl rows work)
+        go (no z) = rw (enter_some H (count R) x work z) (record {
+          same_length = length_link (bucket H x) (count R) work;
+          rest = drop_link H (bucket H x) (count R) work (spans_bucket here (omega arith) x) (omega (arith, spans_room here (omega arith)));
+        })
 
-  pub linked_chains : Chains (index_size rows) (R ▹ x) (link b (count R) work)
-  linked_chains = rw (← q) (chains_link H R work x chains (bucket_below rows x) fits below (omega arith))
+    pub enter_chains : 0 < index_words rows (length (enter (index_words rows (length work)) (count R) x work))
+        → Chains (index_words rows (length (enter (index_words rows (length work)) (count R) x work))) (R ▹ x) (enter (index_words rows (length work)) (count R) x work)
+    enter_chains p =
+        let e = enter_front.same_length in
+        let q : 0 < H = rw e at p in
+        rw (e, enter_some H (count R) x work (λ z. omega arith))
+        (chains_link H R work x (chains q) (spans_bucket here q x) (spans_fits here) (omega (arith, spans_room here q)) (omega arith))
 
 -- the index stands while its words do
 pub chains_same : (H : ℕ) (R : Rows) (work work' : List ℕ) → count R ≤ H → ((i : ℕ) → i < H → get_or work' i 0 ≡ get_or work i 0) → Chains H R work → Chains H R work'

@@ -1,5 +1,5 @@
 -- The walk down a bucket finds what the definition finds.
-use Prim.Native.Nat.{ℕ, ◌+◌, ◌-◌, ◌/◌, ◌%◌, ◌<◌, ◌≤◌}
+use Prim.Native.Nat.{ℕ, suc, ◌+◌, ◌-◌, ◌/◌, ◌%◌, ◌<◌, ◌≤◌}
 use mathlib.Core.Path.{◌≡◌, refl, sym, ap, ◌∙◌}
 use mathlib.Core.Bool.{true, false}
 use mathlib.Core.List.{List}
@@ -8,11 +8,12 @@ use lib.ListN.{length, get_or}
 use Rattle.steps.specs.Rows.{Row, Rows, ◌▹◌, count, next, alike, find, row}
 use Rattle.steps.specs.Table.{Slices, row_at, rows_of}
 use Rattle.steps.proofs.Rows.{◌≼◌, stop, more, ≼_trans, next_2, next_grows, next_count, row_keeps, row_newest}
-use Rattle.steps.proofs.Table.{rows_of_next, rows_of_row}
-use Rattle.steps.proofs.Found.{alike_true, find_newest, find_other}
+use Rattle.steps.proofs.Table.{rows_of_next, rows_of_row, rows_of_part}
+use Rattle.steps.proofs.Found.{alike_true, find_newest, find_keeps, find_other}
+use native.Mathlib.Numerals.{add-one}
 use Rattle.table.specs.Lent.{room}
-use Rattle.table.specs.Index.{index_size, bucket, newest_in, Followed, Apart, Indexed}
-use Rattle.table.proofs.Buckets.{index_room, bucket_below, Newest, nowhere, at, newest, newest_below}
+use Rattle.table.specs.Index.{index_words, bucket, newest_in, Followed, Chains, Apart, Indexed}
+use Rattle.table.proofs.Buckets.{Spans, spans, spans_fits, spans_room, spans_bucket, Newest, nowhere, at, newest, newest_below}
 
 -- parts of what is apart and of what is followed
 apart_part : {R S : Rows} {r : Row} → (S ▹ r) ≼ R → Apart R → find S r ≡ 0
@@ -104,20 +105,41 @@ module _ (H : ℕ) (s : Slices) (c : ℕ) (x : Row) (k : ℕ) (w : Walk H (rows_
       here = follows;
     }
 
--- a walk in the index, from the newest row of the bucket b
-module _ (s : Slices) (c : ℕ) (work : List ℕ) (x : Row) (d : Indexed c s work) where
-  abbrev H : ℕ
-  H = index_size (room s)
+-- the search from row 0 on, which has come to row i
+module _ (s : Slices) (c i : ℕ) (x : Row) (none_yet : find (rows_of s i) x ≡ 0) where
+  pub search_here : i < c → alike (row_at s i) x ≡ true → find (rows_of s c) x ≡ i + 2
+  unfolding rows_of
+  search_here l e =
+      let q = alike_true (row_at s i) x e in
+      let h : find (rows_of s i ▹ row_at s i) x ≡ suc (i + 1) = ap (find (rows_of s i ▹ row_at s i)) (sym q) ∙ find_newest (rows_of s i) (row_at s i) (ap (find (rows_of s i)) q ∙ none_yet) ∙ rows_of_next s i ∙ omega arith in
+      find_keeps (rows_of_part s (suc i) c (omega arith)) x h ∙ omega arith
 
-  pub find_room : c ≤ length work
-  find_room = omega (arith, index_room (room s) d.lent.small, d.lent.used, d.fits)
+  pub search_on : alike (row_at s i) x ≡ false → find (rows_of s (i + 1)) x ≡ 0
+  unfolding rows_of
+  search_on e = rw (add-one i) (find_other (rows_of s i) (row_at s i) x e ∙ none_yet)
 
-  module _ (b : ℕ) (q : bucket (index_size (room s)) x ≡ b) where
-    place_below : b < H
-    place_below = rw q at (bucket_below (room s) x)
+-- a walk in an index of H words
+module _ (s : Slices) (c : ℕ) (work : List ℕ) (x : Row) (d : Indexed c s work) (H : ℕ) (e : index_words (room s) (length work) ≡ H) (some : H ≡ 0 → ⊥) where
+  spanned : Spans (room s) (length work) H
+  spanned = rw e at (spans (room s) (length work) d.lent.small)
 
-    pub find_bucket : b < length work
-    find_bucket = omega (arith, place_below, d.fits)
+  chained : Chains H (rows_of s c) work
+  chained = rw e at (d.chains (rw e (omega arith)))
 
-    pub find_start : (k : ℕ) → get_or work b 0 / 65536 ≡ k → Walk (index_size (room s)) (rows_of s c) x k
-    find_start k p = walk_start H (rows_of s c) x k (rw q (sym (d.chains.heads b place_below) ∙ p))
+  pub find_fits : H ≤ length work
+  find_fits = spans_fits spanned
+
+  pub find_room : c ≤ H
+  find_room = omega (arith, spans_room spanned (omega arith), d.lent.used)
+
+  pub find_bucket : (b : ℕ) → bucket H x ≡ b → b < H
+  find_bucket b q = rw q at (spans_bucket spanned (omega arith) x)
+
+  pub find_follows : Followed H (rows_of s c) work
+  find_follows = chained.follows
+
+  pub find_start : (b k : ℕ) → bucket H x ≡ b → get_or work b 0 / 65536 ≡ k → Walk H (rows_of s c) x k
+  find_start b k q p = walk_start H (rows_of s c) x k (rw q (sym (chained.heads b (find_bucket b q)) ∙ p))
+
+pub search_end : (s : Slices) (c i : ℕ) (x : Row) → i ≤ c → c ≤ i → find (rows_of s i) x ≡ 0 → find (rows_of s c) x ≡ 0
+search_end s c i x h g e = let q : c ≡ i = omega arith in rw q e

@@ -1,9 +1,9 @@
 -- What the public calls on a table share: the order of the checks, and what a call that may append leaves.
 -- Assumes nothing: these are definitions.
-use Rattle.std.specs.Prelude.{ℕ, ◌+◌, ◌-◌, ◌<◌, ◌≡◌, Bool, true, false, ◌&&◌, List, [], ◌∷◌, ◌++◌, eqb, leb, ltb, length, take, drop, replicate}
+use Rattle.std.specs.Prelude.{ℕ, ◌+◌, ◌-◌, ◌≡◌, Bool, true, false, ◌&&◌, List, [], ◌∷◌, ◌++◌, eqb, leb, ltb, length, take, drop, replicate}
 use Rattle.steps.specs.Rows.{Row, Rows, none, ◌▹◌, count, most_variables}
 use Rattle.steps.specs.Sound.{sound}
-use Rattle.steps.specs.Table.{Slices, slices, row_at, rows_of, most_rows}
+use Rattle.steps.specs.Table.{Slices, slices, rows_of, most_rows}
 use Rattle.steps.specs.Steps.{Steps}
 use Rattle.steps.specs.Room.{Ending, made, full, within}
 use Rattle.table.specs.declared.Answer.{Answer}
@@ -80,21 +80,7 @@ abbrev pub IfMade : (ℕ → ℕ → Slices → Type 0) → Answer → Slices �
 IfMade Meant (Made k n) s' = Meant k.0 n s'
 IfMade Meant (Refused why) s' = Unit {0}
 
--- what a call that may append does: its answer and slices are those of its definition, and its number means what it must
+-- WHAT A CALL THAT MAY APPEND PROMISES: its answer and slices are those of its definition, and its number means what it must
 pub record Does (Meant : ℕ → ℕ → Slices → Type 0) (call : Left) (r : Answer) (s' : Slices) : Type 0 where
   pub is : call ≡ left r s'
   pub means : IfMade Meant r s'
-
--- "rows in use stay as they were": row i of the three slices, for each of the c in use at entry
-abbrev pub Stay : ℕ → Slices → Slices → Type 0
-Stay c s s' = (i : ℕ) → i < c → row_at s' i ≡ row_at s i
-
--- the working slice: "It is all zeros after every call, refused or not."
-abbrev pub AllZeros : List ℕ → List ℕ → Type 0
-AllZeros work work' = work' ≡ replicate (length work) 0
-
--- THE CONTRACT OF A CALL THAT MAY APPEND, with c rows in use at entry
-pub record Appends (Meant : ℕ → ℕ → Slices → Type 0) (call : Left) (c : ℕ) (r : Answer) (s s' : Slices) (work work' : List ℕ) : Type 0 where
-  pub does : Does Meant call r s'
-  pub rows_in_use_stay : Stay c s s'
-  pub zeros : AllZeros work work'

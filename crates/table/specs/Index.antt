@@ -11,12 +11,16 @@ use Rattle.table.specs.Lent.{room, Lent}
 unfoldable pub index_size : ℕ → ℕ
 index_size R = cond (ltb 1024 R) 8192 (cond (ltb 64 R) 1024 64)
 
-abbrev pub hash : Row → ℕ
-hash r = (r.var * 2654435769 + r.then_part * 2246822519 + r.else_part * 3266489917) % 4294967296
+-- and in a working slice of L words: none where that is shorter
+unfoldable pub index_words : ℕ → ℕ → ℕ
+index_words R L = cond (ltb L (index_size R)) 0 (index_size R)
 
--- the bucket of a row in an index of H words: the hash's upper bits
+abbrev pub hash : Row → ℕ
+hash r = (r.var * 40503 + r.then_part * 48271 + r.else_part * 69621) / 16
+
+-- the bucket of a row in an index of H words
 unfoldable pub bucket : ℕ → Row → ℕ
-bucket H r = hash r * H / 4294967296
+bucket H r = cond (eqb H 8192) (hash r % 8192) (cond (eqb H 1024) (hash r % 1024) (hash r % 64))
 
 -- the number of the newest row of the bucket b, 0 for none
 unfoldable pub newest_in : ℕ → ℕ → Rows → ℕ
@@ -37,16 +41,16 @@ unfoldable pub Apart : Rows → Type 0
 Apart none = Unit {0}
 Apart (R ▹ r) = Apart R × (find R r ≡ 0)
 
--- no two of the c rows in use are alike, and the working slice begins with their index
+-- no two of the c rows in use are alike, and the working slice begins with their index if it is long enough
 pub record Indexed (c : ℕ) (s : Slices) (work : List ℕ) : Type 0 where
   pub lent : Lent c s
   pub apart : Apart (rows_of s c)
-  pub fits : index_size (room s) ≤ length work
-  pub chains : Chains (index_size (room s)) (rows_of s c) work
+  pub chains : 0 < index_words (room s) (length work) → Chains (index_words (room s) (length work)) (rows_of s c) work
 
--- the row r belongs in the bucket b of the index of a table of R rows
-pub record Belongs (R : ℕ) (r : Row) (b : ℕ) : Type 0 where
-  pub is : bucket (index_size R) r ≡ b
+-- the row r belongs in the bucket b of the index of H words that a table of R rows has in a working slice of L words
+pub record Belongs (R L : ℕ) (r : Row) (H b : ℕ) : Type 0 where
+  pub words : index_words R L ≡ H
+  pub place : bucket H r ≡ b
 
 -- the words with row i linked in as the newest of the bucket b
 unfoldable pub link : ℕ → ℕ → List ℕ → List ℕ
@@ -54,15 +58,18 @@ link b i work =
     let work' = set work i (get_or work i 0 / 65536 * 65536 + get_or work b 0 / 65536) in
     set work' b ((i + 2) * 65536 + get_or work' b 0 % 65536)
 
--- what linking row i into the bucket b asks: their words are there, and the numbers in the words' upper parts are small
-pub record Linkable (b i : ℕ) (work : List ℕ) : Type 0 where
-  pub bucket_there : b < length work
-  pub row_there : i < length work
+unfoldable pub enter : ℕ → ℕ → Row → List ℕ → List ℕ
+enter H i r work = cond (eqb H 0) work (link (bucket H r) i work)
+
+-- what linking row i into an index of H words asks: the words are there, and their heads are small
+pub record Linkable (H i : ℕ) (work : List ℕ) : Type 0 where
+  pub fits : H ≤ length work
+  pub buckets : 0 < H → (r : Row) → bucket H r < H
+  pub row : 0 < H → i < H
   pub small : i < 8192
-  pub bucket_small : get_or work b 0 / 65536 < 65536
-  pub row_small : get_or work i 0 / 65536 < 65536
+  pub heads : (b : ℕ) → b < H → get_or work b 0 / 65536 < 65536
 
 -- nothing but the index has changed, in a table of R rows
 pub record Front (R : ℕ) (work work' : List ℕ) : Type 0 where
   pub same_length : length work' ≡ length work
-  pub rest : drop (index_size R) work' ≡ drop (index_size R) work
+  pub rest : drop (index_words R (length work)) work' ≡ drop (index_words R (length work)) work

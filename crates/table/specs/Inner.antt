@@ -10,8 +10,8 @@ use Rattle.table.specs.declared.index.Found.TheVariants.{At as Found_at, Nothing
 use Rattle.table.specs.declared.make.Made.{Made}
 use Rattle.table.specs.declared.make.Made.TheVariants.{At, Full}
 use Rattle.table.specs.Lent.{room}
-use Rattle.table.specs.Index.{index_size, Indexed, Front}
-use Rattle.table.specs.Memory.{Live, Carries}
+use Rattle.table.specs.Index.{Indexed, Front}
+use Rattle.table.specs.Memory.{Live, Behind}
 
 -- the number that was found, 0 for none
 abbrev pub number_of : Found → ℕ
@@ -74,4 +74,4 @@ LiveAfter Full N s work = Unit {0}
 pub record Kept (N : ℕ) (m : Steps) (r : Made) (c : ℕ) (s s' : Slices) (work work' : List ℕ) : Type 0 where
   pub taken : Taken m r c s s'
   pub live : LiveAfter r N s' work'
-  pub carries : Carries (index_size (room s)) work work'
+  pub behind : Behind (room s) work work'

@@ -1,8 +1,9 @@
 // For the crates above: the index of the rows in the first words of the working slice.
 ghost use Rattle.std.specs.Prelude.{◌≡◌, ◌<◌, ◌/◌, ◌%◌, length, get_or};
-ghost use Rattle.steps.specs.Rows.{row_of};
+ghost use Rattle.steps.specs.Rows.{Row as Triple, row_of};
 ghost use Rattle.steps.specs.Table.{slices, rows_of};
-ghost use Rattle.table.specs.Index.{index_size, bucket, Indexed, Belongs, Linkable, link};
+ghost use Rattle.table.specs.Lent.{Lent};
+ghost use Rattle.table.specs.Index.{index_size, index_words, bucket, Indexed, Belongs, Linkable, enter};
 ghost use Rattle.table.specs.Inner.{Finds};
 
 use crate::Row;
@@ -16,7 +17,7 @@ pub enum Found {
 }
 
 // How many words the index of a table of so many rows has.
-pub fn index_size(rows: usize) -> usize
+fn index_size(rows: usize) -> usize
     ensures { index_size rows ≡ result }
 {
     if 1024 < rows {
@@ -28,16 +29,26 @@ pub fn index_size(rows: usize) -> usize
     64
 }
 
-// The bucket of a row in the index of a table of so many rows: a product's upper bits, which every bit of the row has a part in.
-pub fn bucket(rows: usize, x: Node) -> usize
-    ensures { Belongs rows (row_of x.v.0 x.t.0 x.e.0) result }
+// And in a working slice of len words.
+pub fn index_words(rows: usize, len: usize) -> usize
+    ensures { index_words rows len ≡ result }
 {
-    let h = index_size(rows);
-    let hash = (x.v.0 as usize * 2654435769
-        + x.t.0 as usize * 2246822519
-        + x.e.0 as usize * 3266489917)
-        % 4294967296;
-    hash * h / 4294967296
+    let size = index_size(rows);
+    if len < size { 0 } else { size }
+}
+
+// The bucket of a row in an index of h words.
+pub fn bucket(h: usize, x: Node) -> usize
+    ensures { bucket h (row_of x.v.0 x.t.0 x.e.0) ≡ result }
+{
+    let hash = (x.v.0 as usize * 40503 + x.t.0 as usize * 48271 + x.e.0 as usize * 69621) / 16;
+    if h == 8192 {
+        return hash % 8192;
+    }
+    if h == 1024 {
+        return hash % 1024;
+    }
+    hash % 64
 }
 
 // The newest row of the bucket b, 0 for none.
@@ -56,20 +67,39 @@ fn older(work: &[u64], i: usize) -> usize
     (work[i] % 65536) as usize
 }
 
-// The row x among the count rows in use: in its bucket b, from the newest row down.
+// The row x among the count rows in use, from row 0 on.
+fn search(vs: &[u16], ts: &[u16], es: &[u16], count: usize, x: Node) -> Found
+    requires { Lent count (slices vs.now ts.now es.now) }
+    ensures { Finds result (rows_of (slices vs.now ts.now es.now) count) (row_of x.v.0 x.t.0 x.e.0) }
+{
+    let mut i = 0;
+    while i < count {
+        if is_row(vs, ts, es, i, x) {
+            return Found::At(Row((i + 2) as u16));
+        }
+        i += 1;
+    }
+    Found::Nothing
+}
+
+// The row x among the count rows in use: in its bucket b of their index of h words, if there is one.
 pub fn find(
     vs: &[u16],
     ts: &[u16],
     es: &[u16],
     work: &[u64],
     count: usize,
+    h: usize,
     b: usize,
     x: Node,
 ) -> Found
     requires indexed { Indexed count (slices vs.now ts.now es.now) work.now }
-    requires belongs { Belongs (length vs.now) (row_of x.v.0 x.t.0 x.e.0) b }
+    requires belongs { Belongs (length vs.now) (length work.now) (row_of x.v.0 x.t.0 x.e.0) h b }
     ensures { Finds result (rows_of (slices vs.now ts.now es.now) count) (row_of x.v.0 x.t.0 x.e.0) }
 {
+    if h == 0 {
+        return search(vs, ts, es, count, x);
+    }
     let mut k = head(work, b);
     while 0 < k {
         let i = k - 2;
@@ -81,11 +111,15 @@ pub fn find(
     Found::Nothing
 }
 
-// Enters row i into its bucket b.
-pub fn enter(work: &mut [u64], b: usize, i: usize)
-    requires { Linkable b i work.old }
-    ensures { link b i work.old ≡ work.new }
+// Enters row i into its bucket b of the index of h words.
+pub fn enter(work: &mut [u64], h: usize, b: usize, i: usize)
+    requires linkable { Linkable h i work.old }
+    requires b_lt_h { 0 < h → b < h }
+    ensures { (r : Triple) → bucket h r ≡ b → enter h i r work.old ≡ work.new }
 {
+    if h == 0 {
+        return;
+    }
     let newest = work[b] / 65536;
     work[i] = work[i] / 65536 * 65536 + newest;
     work[b] = (i as u64 + 2) * 65536 + work[b] % 65536;

@@ -1,11 +1,9 @@
-// For the crates above: remembered results, in the last words of the working slice. There are more of these words the more results are remembered.
-ghost use Rattle.std.specs.Prelude.{◌≡◌, ◌+◌, ◌*◌, ◌<◌, ◌≤◌, length, set};
-ghost use Rattle.table.specs.Index.{index_size};
-ghost use Rattle.table.specs.Memory.{first_size, words_needed, key_of, Larger, Memory, Resized, Place, Recalls, Forgets, Grows};
+// For the crates above: remembered results, in the words of the working slice behind the index.
+ghost use Rattle.std.specs.Prelude.{◌≡◌, ◌+◌, ◌*◌, ◌-◌, ◌<◌, set};
+ghost use Rattle.table.specs.Memory.{memory_size, reach, key_of, Size, Place, Recalls};
 
 use crate::Row;
-use crate::index::index_size;
-use zeros::zero_words;
+use crate::index::index_words;
 
 // The operations whose results are remembered.
 pub const SUM: u64 = 1;
@@ -29,117 +27,83 @@ pub fn key(op: u64, f: Row, g: Row) -> u64
     (op * 65536 + f.0 as u64) * 65536 + g.0 as u64
 }
 
-// How many words the memory has at first, for a table of so many rows.
-fn first_size(rows: usize) -> usize
-    ensures { first_size rows ≡ result }
+// How many words remember results, of so many behind the index, for a table of so many rows.
+fn memory_size(rows: usize, free: usize) -> usize
+    ensures { memory_size rows free ≡ result }
 {
-    if 64 < rows {
-        return 16384;
+    if free < 128 {
+        return 0;
     }
-    256
-}
-
-// How long a working slice must be to be worked in, for a table of so many rows.
-pub fn words_needed(rows: usize) -> usize
-    ensures { words_needed rows ≡ result }
-{
-    let from = index_size(rows) + 1024;
-    if 64 < rows {
-        return from + 65536;
+    if free < 2048 {
+        return 128;
     }
-    from + 16384
+    if rows <= 64 {
+        return 128;
+    }
+    if free < 16384 {
+        return 2048;
+    }
+    if rows <= 1024 {
+        return 2048;
+    }
+    16384
 }
 
-// Gives the memory behind the index of so many words another size; the words from its old size on are zeros. It grows once half as many results were remembered.
-fn resize(work: &mut [u64], at: usize, old: usize, size: usize)
-    requires { (old ≤ size) × (size ≤ 4194304) × (at + 1024 + size ≤ length work.old) }
-    ensures { Resized at old size work.old work.new }
+// The word for a key among m.
+fn slot(m: usize, key: u64) -> usize
+    ensures { Size m → result < m }
 {
-    let from = at + 1024;
-    zero_words(work, from + old, from + size);
-    work[at] = size as u64 * 4294967296 + size as u64 / 2;
+    let hash = (key % 65536 * 40503 + key / 65536 % 262144 * 48271) / 16;
+    if m == 16384 {
+        return (hash % 16384) as usize;
+    }
+    if m == 2048 {
+        return (hash % 2048) as usize;
+    }
+    (hash % 128) as usize
 }
 
-// Readies the memory: nothing is remembered in it.
-pub fn forget(rows: usize, work: &mut [u64])
-    requires { words_needed rows ≤ length work.old }
-    ensures { Forgets (index_size rows) work.old work.new }
+// The word that remembers what stands under the key, for a table of so many rows and a working slice of len words; where nothing is remembered, none of them.
+pub fn place(rows: usize, len: usize, key: u64) -> usize
+    ensures { Place rows len result }
 {
-    let at = index_size(rows);
-    let size = first_size(rows);
-    resize(work, at, 0, size);
+    let h = index_words(rows, len);
+    let m = memory_size(rows, len - h);
+    if m == 0 {
+        return len;
+    }
+    h + slot(m, key)
 }
 
-// A key's place among 2^32: a product's upper bits, twice, so that keys at regular distances do not meet.
-fn mixed(key: u64) -> u64
-    ensures { result < 4294967296 }
+// The result that the word i has under the key.
+pub fn recall(work: &[u64], i: usize, key: u64) -> Recalled
+    ensures { Recalls result work.now i key }
 {
-    let once = (key % 4294967296 * 2654435769 + key / 4294967296 % 4 * 2246822519) % 4294967296;
-    (once + once / 32768) % 4294967296 * 2246822519 % 4294967296
-}
-
-// The word that remembers what stands under the key.
-pub fn place(rows: usize, work: &[u64], key: u64) -> usize
-    requires { Memory (index_size rows) work.now }
-    ensures { Place (index_size rows) work.now result }
-{
-    let at = index_size(rows);
-    let size = work[at] / 4294967296;
-    at + 1024 + (mixed(key) * size / 4294967296) as usize
-}
-
-// The result that the memory has under the key: in its word i, or in the word that was the key's before the memory grew.
-pub fn recall(rows: usize, work: &[u64], i: usize, key: u64) -> Recalled
-    requires { (Memory (index_size rows) work.now) × (Place (index_size rows) work.now i) }
-    ensures { Recalls result (index_size rows) work.now key }
-{
+    if work.len() <= i {
+        return Recalled::Nothing;
+    }
     let w = work[i];
     if w / 65536 == key {
         return Recalled::At(Row((w % 65536) as u16));
     }
-    let from = index_size(rows) + 1024;
-    let old = work[from + (i - from) / 4];
-    if old / 65536 == key {
-        return Recalled::At(Row((old % 65536) as u16));
-    }
     Recalled::Nothing
 }
 
-// Four times as many words, as far as there are free ones.
-fn larger(size: usize, free: usize) -> usize
-    requires { (size ≤ free) × (size ≤ 4194304) }
-    ensures { Larger size free result }
+// Remembers the result k under the key in the word i.
+pub fn remember(work: &mut [u64], i: usize, key: u64, k: Row)
+    requires { key < 65536 * 65536 * 4 }
+    ensures { set work.old i (key * 65536 + k.0) ≡ work.new }
 {
-    if 1048576 < size {
-        return size;
-    }
-    if free < 4 * size {
-        return size;
-    }
-    4 * size
-}
-
-// Makes the memory behind the index of so many words larger. A remembered result is right wherever it stands, so none is moved.
-fn grow(work: &mut [u64], at: usize)
-    requires { Memory at work.old }
-    ensures { Grows at work.old work.new }
-{
-    let size = (work[at] / 4294967296) as usize;
-    let free = work.len() - at - 1024;
-    let next = larger(size, free);
-    resize(work, at, size, next);
-}
-
-// Remembers the result k under the key in the word i. Where half as many were remembered as there are words, the memory grows.
-pub fn remember(rows: usize, work: &mut [u64], i: usize, key: u64, k: Row)
-    requires { (Memory (index_size rows) work.old) × (Place (index_size rows) work.old i) × (key < 65536 * 65536 * 4) }
-    ensures { Grows (index_size rows) (set work.old i (key * 65536 + k.0)) work.new }
-{
-    work[i] = key * 65536 + k.0 as u64;
-    let at = index_size(rows);
-    if work[at] % 4294967296 == 0 {
-        grow(work, at);
+    if work.len() <= i {
         return;
     }
-    work[at] -= 1;
+    work[i] = key * 65536 + k.0 as u64;
+}
+
+// How many words of the working slice a table of so many rows uses.
+pub fn words_used(rows: usize, len: usize) -> usize
+    ensures { reach rows len ≡ result }
+{
+    let h = index_words(rows, len);
+    h + memory_size(rows, len - h)
 }

@@ -2,23 +2,23 @@
 use Prim.Native.Nat.{ℕ, zero, suc, ◌<◌, ◌≤◌}
 use mathlib.Core.Path.{◌≡◌, refl, sym, ap, ◌∙◌}
 use mathlib.Core.Bool.{Bool, true, false}
-use mathlib.Core.List.{List}
+use mathlib.Core.List.{List, [], ◌∷◌, ◌++◌}
 use native.Mathlib.Omega.{arith}
 use lib.Dec.{eqb, ltb}
-use lib.ListN.{length}
+use lib.ListN.{length, drop, length-append}
+use lib.Seq.{append_snoc, get_or_at}
 use borrow.Author.Tests.{eqb-true, eqb-false, eq-eqb, ne_eqb, ltb-true, ltb-false, lt-ltb, le-ltb}
 use Rattle.steps.specs.One.{one}
 use Rattle.steps.specs.Room.{made, within}
-use Rattle.steps.specs.Rows.{count}
+use Rattle.steps.specs.Rows.{Row, Rows, none, ◌▹◌, count}
 use Rattle.steps.specs.Steps.{Answer as StepsAnswer}
-use Rattle.steps.specs.Table.{Slices}
+use Rattle.steps.specs.Table.{Slices, slices, rows_of}
 use Rattle.steps.proofs.Room.{Fit, fits, over, fit}
 use Rattle.table.specs.Lent.{room}
-use Rattle.aiger.specs.Answers.{number_of_refusal}
-use Rattle.aiger.specs.Net.{Got, got, refused, Net, circuit}
-use Rattle.verdicts.specs.Calls.{Answer, verdict_0, verdict_1, verdict_2, refusal, Left, refuse, lengths_fine, end_with, judge, judge_read, circuit_call}
+use Rattle.table.specs.Calls.{column, laid}
+use Rattle.aiger.specs.Net.{Got, got, Net, circuit}
+use Rattle.verdicts.specs.Calls.{Answer, refusal, Left, refuse, lengths_fine, end_with, judge, judge_read, circuit_call}
 use Rattle.verdicts.specs.Patterns.{pattern_of}
-use Rattle.verdicts.specs.StandsFor.{Accepts}
 use Rattle.verdicts.specs.Verdicts.{never, can, room_out, judged, verdict_of}
 
 -- the refusals, in their order
@@ -44,13 +44,6 @@ module _ (net : Net) (s : Slices) (o : ℕ) (p : List ℕ) where
     pub judge_passes : length p ≡ length net.inputs → judge net s o p ≡ end_with (verdict_of net (room s) o) s p
     judge_passes h = rw (lt-ltb o (length net.outputs) there, eq-eqb (length p) (length net.inputs) h)
 
--- the number of the verdict, 3 for a refusal
-abbrev pub kind : Answer → ℕ
-kind (verdict_0 n) = 0
-kind (verdict_1 n) = 1
-kind verdict_2 = 2
-kind (refusal w) = 3
-
 -- nothing is refused after the text
 pub record Passed (net : Net) (s : Slices) (o : ℕ) (p : List ℕ) : Type 0 where
   pub fine : lengths_fine s ≡ true
@@ -62,29 +55,17 @@ module _ (text : List ℕ) (net : Net) (rest : List ℕ) (reads : circuit text �
   call_passes x = call_read text s o p x.fine reads ∙ judge_passes net s o p x.there x.long
 
   -- an answer that is no refusal
-  pub passed : kind (circuit_call text s o p).answer < 3 → Passed net s o p
-  passed n = go (lengths_fine s) refl (ltb o (length net.outputs)) refl (eqb (length p) (length net.inputs)) refl
+  pub passed : (a : Answer) → ((w : ℕ) → a ≡ refusal w → ⊥) → (circuit_call text s o p).answer ≡ a → Passed net s o p
+  passed a n e = go (lengths_fine s) refl (ltb o (length net.outputs)) refl (eqb (length p) (length net.inputs)) refl
     where
       stopped : (w : ℕ) → circuit_call text s o p ≡ refuse w s p → Passed net s o p
-      stopped w q = absurd (omega (arith, n, ap (λ (l : Left). kind l.answer) q))
+      stopped w q = absurd (n w (sym e ∙ ap (λ (l : Left). l.answer) q))
 
       go : (f : Bool) → lengths_fine s ≡ f → (t : Bool) → ltb o (length net.outputs) ≡ t → (u : Bool) → eqb (length p) (length net.inputs) ≡ u → Passed net s o p
       go false f t g u h = stopped 1 (call_lengths text s o p f)
       go true f false g u h = stopped 14 (call_read text s o p f reads ∙ judge_no_output net s o p (ltb-false o (length net.outputs) g))
       go true f true g false h = stopped 15 (call_read text s o p f reads ∙ judge_no_pattern net s o p (ltb-true o (length net.outputs) g) (eqb-false (length p) (length net.inputs) h))
       go true f true g true h = record { fine = f; there = ltb-true o (length net.outputs) g; long = eqb-true (length p) (length net.inputs) h }
-
--- and where it is not known that the text is accepted
-pub answered : (text : List ℕ) (s : Slices) (o : ℕ) (p : List ℕ) → kind (circuit_call text s o p).answer < 3 → Accepts text (λ net. Passed net s o p)
-answered text s o p n = go (lengths_fine s) refl (circuit text) refl
-  where
-    stopped : (w : ℕ) → circuit_call text s o p ≡ refuse w s p → Accepts text (λ net. Passed net s o p)
-    stopped w q = absurd (omega (arith, n, ap (λ (l : Left). kind l.answer) q))
-
-    go : (f : Bool) → lengths_fine s ≡ f → (r : Got Net) → circuit text ≡ r → Accepts text (λ net. Passed net s o p)
-    go false f r e = stopped 1 (call_lengths text s o p f)
-    go true f (refused w) e = stopped (number_of_refusal w) (call_read text s o p f e)
-    go true f (got net rest) e = record { net = net; rest = rest; reads = e; holds = passed text net rest e s o p n }
 
 -- the verdicts
 
@@ -104,3 +85,27 @@ case net room x = go (fit room x)
     go : Fit room x → Case net room x
     go (fits h e) = made_case h x.num refl e
     go (over h e) = no_room h (ap (judged net) e)
+
+-- the rows made stand from row 0 on
+
+column_length : (f : Row → ℕ) (R : Rows) → length (column f R) ≡ count R
+unfolding column count
+column_length f none = refl
+column_length f (R ▹ r) = omega (arith, length-append (column f R) (f r ∷ []), column_length f R)
+
+front_rows : (R : Rows) (xs ys zs : List ℕ) → rows_of (slices (column (λ r. r.var) R ++ xs) (column (λ r. r.then_part) R ++ ys) (column (λ r. r.else_part) R ++ zs)) (count R) ≡ R
+unfolding column count rows_of
+front_rows none xs ys zs = refl
+front_rows (R ▹ r) xs ys zs =
+    rw (
+      append_snoc (column (λ r. r.var) R) r.var xs,
+      append_snoc (column (λ r. r.then_part) R) r.then_part ys,
+      append_snoc (column (λ r. r.else_part) R) r.else_part zs,
+      get_or_at (column (λ r. r.var) R) r.var xs 0 (count R) (column_length (λ r. r.var) R),
+      get_or_at (column (λ r. r.then_part) R) r.then_part ys 0 (count R) (column_length (λ r. r.then_part) R),
+      get_or_at (column (λ r. r.else_part) R) r.else_part zs 0 (count R) (column_length (λ r. r.else_part) R),
+      front_rows R (r.var ∷ xs) (r.then_part ∷ ys) (r.else_part ∷ zs),
+    )
+
+pub laid_rows : (R : Rows) (s : Slices) → rows_of (laid R s) (count R) ≡ R
+laid_rows R s = front_rows R (drop (count R) s.vars) (drop (count R) s.thens) (drop (count R) s.elses)

@@ -2,4 +2,3 @@ pub mod Systems
 pub mod Patterns
 pub mod Verdicts
 pub mod Calls
-pub mod StandsFor

@@ -1,15 +1,14 @@
 // For the crates above: zeros, written into a slice.
-ghost use Rattle.std.specs.Prelude.{◌≡◌, ◌≤◌, length, replicate};
-ghost use Rattle.zeros.specs.Zeroed.{Zeroed};
+ghost use Rattle.std.specs.Prelude.{◌≡◌, ◌++◌, ◌≤◌, length, replicate, drop};
 
-// Zeros words of the working slice.
-pub fn zero_words(words: &mut [u64], from: usize, to: usize)
-    requires { (from ≤ to) × (to ≤ length words.old) }
-    ensures { Zeroed from to words.old words.new }
+// Zeros the first words of the working slice.
+pub fn zero_words(xs: &mut [u64], upto: usize)
+    requires { upto ≤ length xs.old }
+    ensures { xs.new ≡ replicate upto 0 ++ drop upto xs.old }
 {
-    let mut i = from;
-    while i < to {
-        words[i] = 0;
+    let mut i = 0;
+    while i < upto {
+        xs[i] = 0;
         i += 1;
     }
 }
@@ -19,7 +18,7 @@ pub fn zero_work(work: &mut [u64])
     ensures { work.new ≡ replicate (length work.old) 0 }
 {
     let all = work.len();
-    zero_words(work, 0, all);
+    zero_words(work, all);
 }
 
 // Zeros free rows, one column of them.

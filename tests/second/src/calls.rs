@@ -3,7 +3,7 @@
 use std::collections::HashSet;
 
 use crate::lent::Lent;
-use crate::steps::{NoRoom, Number, Row, Step, Steps};
+use crate::steps::{Number, Row, Step, Steps, Stop};
 
 /// "N ring variables, 0 ≤ N ≤ 1,024"
 pub const RING_LIMIT: u64 = 1_024;
@@ -159,54 +159,59 @@ fn append(steps: &mut Steps, call: Call) -> Step<Number> {
 }
 
 /// The rows in use of a table that is in range, with the given room.
-fn steps_of(lent: &Lent, room: usize) -> Steps {
-    Steps::new(lent.n as u32, lent.table.rows(lent.count as usize), room)
+fn steps_of(lent: &Lent, room: usize, budget: u64) -> Steps {
+    Steps { n: lent.n as u32, rows: lent.table.rows(lent.count as usize), room, budget }
 }
 
+/// The call went over its budget of steps; the lent slices are then of no use.
+#[derive(Debug, PartialEq, Eq)]
+pub struct OverBudget;
+
 /// The call, with every lent slice left as the paper says.
-pub fn answer(lent: &mut Lent, call: Call) -> Answer {
+pub fn answer(lent: &mut Lent, call: Call, budget: u64) -> Result<Answer, OverBudget> {
     // "It is all zeros after every call, refused or not."
     lent.work.fill(0);
     if let Some(number) = refusal(lent, call) {
-        return Answer::Refused(number);
+        return Ok(Answer::Refused(number));
     }
-    let mut steps = steps_of(lent, lent.table.var.len());
+    let mut steps = steps_of(lent, lent.table.var.len(), budget);
     match call {
-        Call::Value { f } => Answer::Value(steps.value(f.into(), &lent.assignment)),
+        Call::Value { f } => Ok(Answer::Value(steps.value(f.into(), &lent.assignment))),
         Call::One { f } => {
             // "finding a one writes the whole assignment"
             lent.assignment = steps.find_one(f.into());
-            Answer::One
+            Ok(Answer::One)
         }
         _ => appended(lent, &mut steps, call),
     }
 }
 
 /// A call that may append, when nothing but room can still stop it.
-fn appended(lent: &mut Lent, steps: &mut Steps, call: Call) -> Answer {
+fn appended(lent: &mut Lent, steps: &mut Steps, call: Call) -> Result<Answer, OverBudget> {
     let in_use = lent.count as usize;
     match append(steps, call) {
         Ok(row) => {
             // "Success changes no row in use at entry and no row free at exit"
-            lent.table.write(in_use, &steps.rows()[in_use..]);
-            lent.count = steps.rows().len() as u64;
-            Answer::Appended { row: row as u16, new_count: lent.count }
+            lent.table.write(in_use, &steps.rows[in_use..]);
+            lent.count = steps.rows.len() as u64;
+            Ok(Answer::Appended { row: row as u16, new_count: lent.count })
         }
-        Err(NoRoom) => {
+        Err(Stop::NoRoom) => {
             // "Refusal 7 keeps the rows and count in use and zeros all free rows."
             lent.table.zero_from(in_use);
-            Answer::Refused(7)
+            Ok(Answer::Refused(7))
         }
+        Err(Stop::OverBudget) => Err(OverBudget),
     }
 }
 
-/// How many rows the call's steps would end with in a table of the given room; `None` where they
-/// need more, or the call refuses before its steps or does not append.
-pub fn rows_needed(lent: &Lent, call: Call, room: usize) -> Option<usize> {
+/// How many rows the call's steps would end with if room were unlimited; `None` where the call
+/// refuses before its steps, does not append, or goes over its budget.
+pub fn rows_without_limit(lent: &Lent, call: Call, budget: u64) -> Option<usize> {
     if !call.appends() || refusal(lent, call).is_some() {
         return None;
     }
-    let mut steps = steps_of(lent, room);
+    let mut steps = steps_of(lent, usize::MAX, budget);
     append(&mut steps, call).ok()?;
-    Some(steps.rows().len())
+    Some(steps.rows.len())
 }

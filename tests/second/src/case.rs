@@ -9,6 +9,9 @@ use crate::lent::Lent;
 use crate::rng::Rng;
 use crate::steps::Row;
 
+/// Steps a call may take; calls over it are left out of their case.
+pub const BUDGET: u64 = 500_000;
+
 pub struct Case {
     commands: Vec<Command>,
     pub lent: Lent,
@@ -27,16 +30,22 @@ impl Case {
         self.commands.push(command);
     }
 
-    /// Adds a call on a table.
-    pub fn call(&mut self, call: Call) -> Answer {
+    /// Adds a call on a table, unless it goes over its budget.
+    pub fn call(&mut self, call: Call) -> Option<Answer> {
+        let mut after = self.lent.clone();
+        let answer = calls::answer(&mut after, call, BUDGET).ok()?;
+        self.lent = after;
         self.commands.push(Command::Call(call));
-        calls::answer(&mut self.lent, call)
+        Some(answer)
     }
 
-    /// Adds a circuit call.
+    /// Adds a circuit call, unless it goes over its budget.
     pub fn circuit(&mut self, output: u64) {
-        self.commands.push(Command::Circuit { output });
-        circuit::answer(&mut self.lent, output);
+        let mut after = self.lent.clone();
+        if circuit::answer(&mut after, output, BUDGET).is_ok() {
+            self.lent = after;
+            self.commands.push(Command::Circuit { output });
+        }
     }
 
     /// Adds a text call.
@@ -60,7 +69,12 @@ impl Case {
 
     /// Lends a working slice of any length with anything in it; a long one more often where the table is large.
     pub fn work(&mut self, rng: &mut Rng) {
-        let length = work_length(self.lent.table.var.len(), rng);
+        let large = self.lent.table.var.len() > 64;
+        let length = if rng.chance(1, if large { 2 } else { 3 }) {
+            long_work(large, rng)
+        } else {
+            rng.pick(&[0, 1, 2, 7, 63, 64, 65])
+        };
         let first = if rng.chance(1, 3) { plausible_words(length.min(65), rng) } else { vec![] };
         let rest = match rng.below(4) {
             0 => Rest::Zeros,
@@ -85,30 +99,6 @@ fn free_rows(rng: &mut Rng) -> Rest {
         0 => Rest::Zeros,
         1 => Rest::Equal(rng.below(70_000).min(65_535) as u64),
         _ => Rest::Garbage(rng.bits() >> 40),
-    }
-}
-
-/// Lengths of short working slices.
-const SHORT: [usize; 12] = [0, 1, 2, 7, 63, 64, 65, 127, 128, 1_024, 8_192, 8_300];
-/// From these lengths on the library works in what is lent, for tables of up to 64 rows, of up to
-/// 1,024 and of more; below, in an array of its own. The answers must not depend on it.
-const WORKED_IN: [usize; 3] = [17_472, 67_584, 74_752];
-/// So many words are more than any memory of results needs.
-const LONGEST: usize = 300_000;
-
-/// The length of a working slice for a table of the given room.
-fn work_length(room: usize, rng: &mut Rng) -> usize {
-    let large = room > 64;
-    match rng.below(300) {
-        0..=1 => LONGEST,
-        2..=9 => {
-            let fitting = WORKED_IN[usize::from(large) + usize::from(room > 1_024)];
-            let length = if rng.chance(3, 4) { fitting } else { rng.pick(&WORKED_IN) };
-            length - 1 + rng.below(3)
-        }
-        10..=99 => long_work(large, rng),
-        100..=149 if large => long_work(large, rng),
-        _ => rng.pick(&SHORT),
     }
 }
 

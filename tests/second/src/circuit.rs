@@ -1,7 +1,8 @@
 //! The circuit call and the text call.
 
+use crate::calls::OverBudget;
 use crate::lent::Lent;
-use crate::steps::{NoRoom, Number, Step, Steps};
+use crate::steps::{Number, Step, Steps, Stop};
 use crate::text::{self, variable_of, Circuit};
 
 /// What the circuit call answers.
@@ -66,8 +67,8 @@ fn output_form(steps: &mut Steps, circuit: &Circuit, output: u16) -> Step<Number
 }
 
 /// "Every output starts from an empty table".
-fn empty_table(circuit: &Circuit, room: usize) -> Steps {
-    Steps::new(u32::from(circuit.max), Vec::new(), room)
+fn empty_table(circuit: &Circuit, room: usize, budget: u64) -> Steps {
+    Steps { n: u32::from(circuit.max), rows: Vec::new(), room, budget }
 }
 
 /// "one byte for each input in file order"
@@ -77,41 +78,41 @@ fn pattern_of(circuit: &Circuit, assignment: &[u8]) -> Vec<u8> {
 }
 
 /// The circuit call, with every lent slice left as the paper says.
-pub fn answer(lent: &mut Lent, output: u64) -> Answer {
+pub fn answer(lent: &mut Lent, output: u64, budget: u64) -> Result<Answer, OverBudget> {
     // "It is all zeros after every call, refused or not."
     lent.work.fill(0);
     let circuit = match check(lent, output) {
         Ok(circuit) => circuit,
         // "Refusals touch neither rows nor pattern."
-        Err(number) => return Answer::Refused(number),
+        Err(number) => return Ok(Answer::Refused(number)),
     };
-    let mut steps = empty_table(&circuit, lent.table.var.len());
+    let mut steps = empty_table(&circuit, lent.table.var.len(), budget);
     match output_form(&mut steps, &circuit, circuit.outputs[output as usize]) {
         Ok(form) => {
             // "which stand from row 0 on, and leaves the rest untouched"
-            lent.table.write(0, steps.rows());
-            let rows = steps.rows().len();
+            lent.table.write(0, &steps.rows);
+            let rows = steps.rows.len();
             if form == 0 {
-                return Answer::Zero { rows };
+                return Ok(Answer::Zero { rows });
             }
             // "Only verdict 1 writes the pattern".
             lent.pattern = pattern_of(&circuit, &steps.find_one(form));
-            Answer::One { rows }
+            Ok(Answer::One { rows })
         }
-        Err(NoRoom) => {
+        Err(Stop::NoRoom) => {
             // "verdict 2 (room ran out) ... leaves all rows zero"
             lent.table.zero_from(0);
-            Answer::NoRoom
+            Ok(Answer::NoRoom)
         }
+        Err(Stop::OverBudget) => Err(OverBudget),
     }
 }
 
-/// How many rows the steps for an output end with in a table of the given room; `None` where they
-/// need more.
-pub fn rows_needed(circuit: &Circuit, output: usize, room: usize) -> Option<usize> {
-    let mut steps = empty_table(circuit, room);
+/// How many rows the steps for an output end with if room is unlimited; `None` over the budget.
+pub fn rows_without_limit(circuit: &Circuit, output: usize, budget: u64) -> Option<usize> {
+    let mut steps = empty_table(circuit, usize::MAX, budget);
     output_form(&mut steps, circuit, circuit.outputs[output]).ok()?;
-    Some(steps.rows().len())
+    Some(steps.rows.len())
 }
 
 /// The text call: "the same checks from 9 to the output literals, and returns I and O".

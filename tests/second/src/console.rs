@@ -48,7 +48,7 @@ fn table_lines(out: &mut String, lent: &Lent) {
 
 fn call_lines(out: &mut String, lent: &mut Lent, call: Call) {
     let before = lent.clone();
-    let answer = calls::answer(lent, call);
+    let answer = calls::answer(lent, call, u64::MAX).expect("no budget can be gone over");
     semantic::check_call(&before, lent, call, answer);
     let (number, row, count, value) = match answer {
         Answer::Appended { row, new_count } => (0, row, new_count, UNWRITTEN as u8),
@@ -70,7 +70,7 @@ fn call_lines(out: &mut String, lent: &mut Lent, call: Call) {
 
 fn circuit_lines(out: &mut String, lent: &mut Lent, output: u64) {
     let before = lent.clone();
-    let answer = circuit::answer(lent, output);
+    let answer = circuit::answer(lent, output, u64::MAX).expect("no budget can be gone over");
     semantic::check_circuit(&before, lent, output, answer);
     let (number, verdict, rows) = match answer {
         circuit::Answer::Zero { rows } => (0, 0, rows as u64),

@@ -3,13 +3,12 @@
 use std::io::{self, Write};
 
 use crate::calls::{self, Call};
-use crate::case::Case;
+use crate::case::{Case, BUDGET};
 use crate::command::{Command, Rest, Spec};
 use crate::rng::Rng;
 use crate::steps::Row;
 use crate::tables::{
-    chain, layered_rows, linked_rows, mirror_rows, push_ladder, push_machine, sound_rows, spoil,
-    system_rows, Rung,
+    chain, layered_rows, linked_rows, mirror_rows, sound_rows, spoil, system_rows,
 };
 
 /// A ring's size: small most often, so that the written steps end soon.
@@ -163,11 +162,11 @@ fn mirror(case: &mut Case, rng: &mut Rng) {
     add_fitting_calls(case, n, &rows, any, rng);
 }
 
-/// Rows the steps of a call end with, where they append no more than some hundreds; else that many.
+/// Rows the steps of a call end with, if room is unlimited and they are not too many.
 fn rows_needed(case: &Case, call: Call) -> usize {
     let in_use = case.lent.count as usize;
-    let most = in_use + 600;
-    calls::rows_needed(&case.lent, call, most).unwrap_or(if call.appends() { most } else { in_use })
+    let needed = calls::rows_without_limit(&case.lent, call, BUDGET).unwrap_or(in_use);
+    needed.min(in_use + 600)
 }
 
 /// Of some calls the one that needs the most rows.
@@ -260,7 +259,7 @@ fn add_system(case: &mut Case, rng: &mut Rng) {
         let tail = number(case, rng);
         if rng.chance(1, 2) && root_of(case, tail) > u64::from(lead) {
             let answer = case.call(Call::Equation { lead, system, tail });
-            if let calls::Answer::Appended { row, .. } = answer {
+            if let Some(calls::Answer::Appended { row, .. }) = answer {
                 system = row;
             }
         }
@@ -412,44 +411,6 @@ fn wide_system(case: &mut Case, rng: &mut Rng) {
     add_call(case, Call::NormalForm { p, system }, rng);
 }
 
-/// Sums, products and normal forms of ladders and machines, whose steps would take years without
-/// remembered results.
-fn ladder(case: &mut Case, rng: &mut Rng) {
-    const RUNGS: [Rung; 6] = [
-        |own, _| (own, own),
-        |own, _| (own, 1),
-        |own, _| (1, own),
-        |own, next| (own, next),
-        |own, next| (next, own),
-        |own, _| (own, 0),
-    ];
-    let n = rng.between(20, 60) as u64;
-    let mut rows = Vec::new();
-    let mut tops = Vec::new();
-    for _ in 0..rng.between(2, 3) {
-        let height = n as usize - rng.below(3);
-        if rng.chance(1, 2) {
-            let sides = rng.between(1, 6);
-            tops.extend(push_ladder(n, &mut rows, sides, height, rng.pick(&RUNGS)));
-        } else {
-            let states = rng.between(2, 6);
-            tops.extend(push_machine(n, &mut rows, states, height, rng));
-        }
-    }
-    let room = rng.pick(&[rows.len(), 128, 1_024, 1_025, 4_096, 8_192]).max(rows.len());
-    case.set(Command::Ring(n));
-    case.table(&rows, room, rng);
-    for _ in 0..rng.between(1, 2) {
-        let (f, g) = (rng.pick(&tops) as u16, rng.pick(&tops) as u16);
-        let call = match rng.below(5) {
-            0 => Call::Sum { f, g },
-            1 => Call::NormalForm { p: f, system: g.max(1) },
-            _ => Call::Product { f, g },
-        };
-        add_call(case, call, rng);
-    }
-}
-
 /// A table that is full or nearly full at its greatest length.
 fn full(case: &mut Case, rng: &mut Rng) {
     let n = rng.pick(&[10, 64, 1_024]);
@@ -474,8 +435,7 @@ fn any_kind(rng: &mut Rng) -> (&'static str, fn(&mut Case, &mut Rng)) {
         175..=194 => ("build", build),
         195..=229 => ("unsound", unsound),
         230..=259 => ("range", range),
-        260..=291 => ("faults", faults),
-        292..=293 => ("ladder", ladder),
+        260..=293 => ("faults", faults),
         294..=297 => ("wide", wide),
         298 => ("wide_system", wide_system),
         _ => ("full", full),

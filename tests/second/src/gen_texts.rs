@@ -2,13 +2,12 @@
 
 use std::io::{self, Write};
 
-use crate::case::Case;
+use crate::case::{Case, BUDGET};
 use crate::circuit;
 use crate::command::{Command, Rest, Spec};
 use crate::corpus;
 use crate::damage;
 use crate::fixed;
-use crate::lent::TABLE_LIMIT;
 use crate::rng::Rng;
 use crate::shapes;
 use crate::text::{self, Circuit};
@@ -31,14 +30,21 @@ fn room_for(needed: usize, rng: &mut Rng) -> usize {
     .min(8_192)
 }
 
+/// A circuit whose outputs all stay within the budget.
 fn any_circuit(rng: &mut Rng) -> Circuit {
-    let shape = rng.pick(&[shapes::small_circuit, shapes::large_circuit]);
-    shape(rng)
+    loop {
+        let shape = rng.pick(&[shapes::small_circuit, shapes::large_circuit]);
+        let circuit = shape(rng);
+        let within = |output| circuit::rows_without_limit(&circuit, output, BUDGET).is_some();
+        if (0..circuit.outputs.len()).all(within) {
+            return circuit;
+        }
+    }
 }
 
 /// A circuit call for one output, in a table of fitting or too small room.
 fn ask(case: &mut Case, circuit: &Circuit, output: usize, rng: &mut Rng) {
-    let needed = circuit::rows_needed(circuit, output, TABLE_LIMIT).unwrap_or(TABLE_LIMIT);
+    let needed = circuit::rows_without_limit(circuit, output, BUDGET).unwrap_or(0);
     let room = room_for(needed, rng);
     case.columns(&[], [room; 3], rng);
     case.work(rng);

@@ -30,8 +30,8 @@ pub fn print(text: &[u8], room: usize) -> String {
         Lent { table: slices, text: text.to_vec(), pattern: vec![0; inputs], ..Lent::default() };
     let print_output = |output: usize| {
         let mut lent = lent.clone();
-        let answer = circuit::answer(&mut lent, output as u64);
-        block(output, answer, &lent.pattern)
+        let answer = circuit::answer(&mut lent, output as u64, u64::MAX);
+        block(output, answer.expect("no budget can be gone over"), &lent.pattern)
     };
     (0..outputs).map(print_output).collect()
 }

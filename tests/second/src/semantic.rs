@@ -21,8 +21,8 @@ const ALL_PATTERNS: usize = 12;
 const RANDOM_WORDS: usize = 4;
 /// How many random patterns are taken, where not all are.
 const RANDOM_PATTERNS: usize = 100;
-/// A room that no table has, in which steps that ran out of room are taken again.
-const LARGER_ROOM: usize = 10_000;
+/// Steps allowed for finding how many rows unlimited room would take.
+const BUDGET: u64 = 200_000;
 
 /// One bit for each assignment.
 type Bits = Vec<u64>;
@@ -148,10 +148,10 @@ fn check_untouched(before: &Lent, after: &Lent, call: Call) {
     require(same, "nothing written", call);
 }
 
-/// Room runs out exactly when a larger room would end with more than R rows.
+/// Room runs out exactly when unlimited room would end with more than R rows.
 fn check_no_room(before: &Lent, after: &Lent, call: Call) {
     let room = before.table.var.len();
-    if let Some(rows) = calls::rows_needed(before, call, LARGER_ROOM) {
+    if let Some(rows) = calls::rows_without_limit(before, call, BUDGET) {
         require(rows > room, "the steps need more than R rows", call);
     }
     let in_use = before.count as usize;
@@ -369,10 +369,10 @@ fn check_verdict_one(circuit: &Circuit, output: usize, pattern: &[u8]) {
     }
 }
 
-/// Verdict 2: a larger room would end with more than R rows, and all rows are zero.
+/// Verdict 2: unlimited room would end with more than R rows, and all rows are zero.
 fn check_verdict_two(before: &Lent, after: &Lent, circuit: &Circuit, output: usize) {
     let room = after.table.var.len();
-    if let Some(rows) = circuit::rows_needed(circuit, output, LARGER_ROOM) {
+    if let Some(rows) = circuit::rows_without_limit(circuit, output, BUDGET) {
         assert!(rows > room, "semantic check failed: verdict 2 with room for {rows} rows");
     }
     let zero = Row { var: 0, then: 0, els: 0 };

@@ -1,11 +1,7 @@
 //! "The written steps. These fix which rows are appended and in what order."
 //!
-//! Steps on the same operands are taken once. Rows are only ever appended, so the same steps taken
-//! again in the same call would find every row that they made: they would append nothing and give
-//! the same number. So that number is remembered. `tests/self_test/literal.rs` takes the steps
-//! again each time, and the self-test holds these to it.
-
-use std::collections::HashMap;
+//! Every step is taken as it is written, again each time: nothing is remembered. That can take
+//! exponential time, so steps are counted against a budget.
 
 /// Number of a polynomial: 0 and 1 are the constants, row k has number k + 2.
 pub type Number = u32;
@@ -18,47 +14,26 @@ pub struct Row {
     pub els: Number,
 }
 
-/// "Room has run out when a row must be appended and all R are in use."
+/// Why the steps end before their answer.
 #[derive(Clone, Copy, Debug, PartialEq, Eq)]
-pub struct NoRoom;
-
-pub type Step<T> = Result<T, NoRoom>;
-
-/// Steps whose number is remembered, with their operands in their order: f·g and g·f may append
-/// different rows.
-#[derive(Clone, Copy, PartialEq, Eq, Hash)]
-enum Taken {
-    Sum(Number, Number),
-    Product(Number, Number),
-    NormalForm(Number, Number),
+pub enum Stop {
+    /// "Room has run out when a row must be appended and all R are in use."
+    NoRoom,
+    /// More steps than the caller is ready to wait for.
+    OverBudget,
 }
 
-/// The rows in use, the room for them, and what was found in this call.
+pub type Step<T> = Result<T, Stop>;
+
+/// Rows in use, the room for them, and the steps still allowed.
 pub struct Steps {
-    n: u32,
-    rows: Vec<Row>,
-    room: usize,
-    /// The number of each row in use; of rows alike the first's.
-    numbers: HashMap<Row, Number>,
-    /// What the steps taken in this call gave.
-    taken: HashMap<Taken, Number>,
+    pub n: u32,
+    pub rows: Vec<Row>,
+    pub room: usize,
+    pub budget: u64,
 }
 
 impl Steps {
-    /// A call begins: these rows are in use, and nothing is remembered.
-    pub fn new(n: u32, rows: Vec<Row>, room: usize) -> Steps {
-        let mut numbers = HashMap::new();
-        for (index, &row) in rows.iter().enumerate() {
-            numbers.entry(row).or_insert(index as Number + 2);
-        }
-        Steps { n, rows, room, numbers, taken: HashMap::new() }
-    }
-
-    /// The rows in use.
-    pub fn rows(&self) -> &[Row] {
-        &self.rows
-    }
-
     fn row(&self, f: Number) -> Row {
         self.rows[f as usize - 2]
     }
@@ -80,40 +55,31 @@ impl Steps {
         self.row(f).els
     }
 
-    /// The number that these steps gave before, or else now.
-    fn once(
-        &mut self,
-        these: Taken,
-        take: impl FnOnce(&mut Steps) -> Step<Number>,
-    ) -> Step<Number> {
-        if let Some(&number) = self.taken.get(&these) {
-            return Ok(number);
-        }
-        let number = take(self)?;
-        self.taken.insert(these, number);
-        Ok(number)
+    fn spend(&mut self, cost: u64) -> Step<()> {
+        self.budget = self.budget.checked_sub(cost).ok_or(Stop::OverBudget)?;
+        Ok(())
     }
 
     /// "Make (v, t, e): if t = 0 the answer is e; if a row in use is alike, its number; else append."
     pub fn make(&mut self, var: u32, then: Number, els: Number) -> Step<Number> {
+        self.spend(1 + self.rows.len() as u64 / 16)?;
         if then == 0 {
             return Ok(els);
         }
         let row = Row { var, then, els };
-        if let Some(&number) = self.numbers.get(&row) {
-            return Ok(number);
+        if let Some(index) = self.rows.iter().position(|&used| used == row) {
+            return Ok(index as Number + 2);
         }
         if self.rows.len() == self.room {
-            return Err(NoRoom);
+            return Err(Stop::NoRoom);
         }
         self.rows.push(row);
-        let number = self.rows.len() as Number + 1;
-        self.numbers.insert(row, number);
-        Ok(number)
+        Ok(self.rows.len() as Number + 1)
     }
 
     /// Sum f + g.
     pub fn sum(&mut self, f: Number, g: Number) -> Step<Number> {
+        self.spend(1)?;
         // "f = 0 gives g; g = 0 gives f; f = g gives 0."
         if f == 0 {
             return Ok(g);
@@ -124,10 +90,6 @@ impl Steps {
         if f == g {
             return Ok(0);
         }
-        self.once(Taken::Sum(f, g), |steps| steps.sum_of_parts(f, g))
-    }
-
-    fn sum_of_parts(&mut self, f: Number, g: Number) -> Step<Number> {
         let (root_f, root_g) = (self.root(f), self.root(g));
         if root_f == root_g {
             // "sum of the then-parts, sum of the else-parts, make."
@@ -143,6 +105,7 @@ impl Steps {
 
     /// Product f·g.
     pub fn product(&mut self, f: Number, g: Number) -> Step<Number> {
+        self.spend(1)?;
         // "f = 1 gives g; f or g = 0 gives 0; g = 1 or f = g gives f."
         if f == 1 {
             return Ok(g);
@@ -153,10 +116,6 @@ impl Steps {
         if g == 1 || f == g {
             return Ok(f);
         }
-        self.once(Taken::Product(f, g), |steps| steps.product_of_parts(f, g))
-    }
-
-    fn product_of_parts(&mut self, f: Number, g: Number) -> Step<Number> {
         let (root_f, root_g) = (self.root(f), self.root(g));
         if root_f == root_g {
             return self.product_of_equal_roots(f, g);
@@ -188,14 +147,11 @@ impl Steps {
 
     /// Normal form of p by F.
     pub fn normal_form(&mut self, p: Number, system: Number) -> Step<Number> {
+        self.spend(1)?;
         // "F = 1 or p constant gives p."
         if system == 1 || p < 2 {
             return Ok(p);
         }
-        self.once(Taken::NormalForm(p, system), |steps| steps.normal_form_of_parts(p, system))
-    }
-
-    fn normal_form_of_parts(&mut self, p: Number, system: Number) -> Step<Number> {
         let (root_p, root_system) = (self.root(p), self.root(system));
         if root_p > root_system {
             // "Root of p above F's in index: normal form of p by then(F)."

@@ -110,65 +110,6 @@ pub fn chain(n: u64, length: usize, step: fn(u32) -> (u32, u32)) -> Vec<Row> {
     rows
 }
 
-/// How a ladder's row is built on the two before it.
-pub type Rung = fn(u32, u32) -> (u32, u32);
-
-/// Appends a ladder: `sides` rows for each variable from the last on, each built on the number of
-/// its own side and the next side's one variable before. Taken literally, the steps on two ladders
-/// double at every variable. Gives the numbers of the last rows.
-pub fn push_ladder(
-    n: u64,
-    rows: &mut Vec<Row>,
-    sides: usize,
-    height: usize,
-    rung: Rung,
-) -> Vec<u32> {
-    let mut last: Vec<u32> = (0..sides as u32).map(|side| 1 - side.min(1)).collect();
-    for k in 0..height {
-        let var = (n - 1) as u32 - k as u32;
-        let mut next = Vec::new();
-        for side in 0..sides {
-            let (then, els) = rung(last[side], last[(side + 1) % sides]);
-            let row = Row { var, then: if then == 0 { 1 } else { then }, els };
-            let known = rows.iter().position(|&used| used == row);
-            let index = known.unwrap_or(rows.len());
-            if known.is_none() {
-                rows.push(row);
-            }
-            next.push(index as u32 + 2);
-        }
-        last = next;
-    }
-    last
-}
-
-/// Appends `states` rows for each variable from the last on, each built on any of those one
-/// variable before, as a machine with that many states goes on. Gives the numbers of the last rows.
-pub fn push_machine(
-    n: u64,
-    rows: &mut Vec<Row>,
-    states: usize,
-    height: usize,
-    rng: &mut Rng,
-) -> Vec<u32> {
-    let mut last: Vec<u32> = vec![0, 1];
-    for k in 0..height {
-        let var = (n - 1) as u32 - k as u32;
-        let mut next = Vec::new();
-        for _ in 0..states {
-            let row = Row { var, then: rng.pick(&last).max(1), els: rng.pick(&last) };
-            if !rows.contains(&row) {
-                rows.push(row);
-                next.push(rows.len() as u32 + 1);
-            }
-        }
-        if !next.is_empty() {
-            last = next;
-        }
-    }
-    last
-}
-
 /// The rows of all variables and of the system of all x_i + x_(i+1); gives them with the numbers of
 /// x_0 and of the system.
 pub fn linked_rows(n: u32) -> (Vec<Row>, u16, u16) {

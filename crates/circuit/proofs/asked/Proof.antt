@@ -11,16 +11,16 @@ cast-if1 : tie.Need-overflow-cast-if1
 cast-if1 c = search rules
 
 returns : tie.Need-returns
-returns c = let c12 = c.before.before.before.before.before.before.before.before.before.before.before.before in no_output _ _ _ _ _ ((c12.requires.0)) (omega (arith, (c.if1.true)))
+returns c = let c12 = c.before.before.before.before.before.before.before.before.before.before.before.before in no_output _ _ _ _ _ (c12.requires) (omega (arith, c.if1.true))
 
 cast-if2 : tie.Need-overflow-cast-if2
 cast-if2 c = search rules
 
 returns-2 : tie.Need-returns-2
-returns-2 c = let c14 = c.before.before.before.before.before.before.before.before.before.before.before.before.before.before in no_pattern _ _ _ _ _ ((c14.requires.0)) (omega (arith, (c.before.before.if1.false))) ((c.if2.true))
+returns-2 c = let c14 = c.before.before.before.before.before.before.before.before.before.before.before.before.before.before in no_pattern _ _ _ _ _ (c14.requires) (omega (arith, c.before.before.if1.false)) (c.if2.true)
 
 verdict-requires : tie.Need-verdict-requires
-verdict-requires c κs = let c5 = c.before.before.before.before.before in let c7 = c5.before.before in let c19 = c7.before.before.before.before.before.before.before.before.before.before.before.before in (record { read = (c19.requires.0); there = omega (arith, (c7.if1.false)); long = (c5.if2.false) }, (c19.requires.1))
+verdict-requires c κs = search rules
 
 same_length : tie.Need-same-length
 same_length c = search rules
@@ -38,7 +38,7 @@ same-length-5 : tie.Need-same-length-5
 same-length-5 c = search rules
 
 returns-3 : tie.Need-returns-3
-returns-3 c = let c10 = c.before.before.before.before.before.before.before.before.before.before in let c16 = c10.before.before.before.before.before.before in let c18 = c16.before.before in let c30 = c18.before.before.before.before.before.before.before.before.before.before.before.before in asked_done _ _ _ _ _ ((c30.requires.0)) (omega (arith, (c18.if1.false))) ((c16.if2.false)) ((c10.verdict.ensures))
+returns-3 c = let c10 = c.before.before.before.before.before.before.before.before.before.before in let c16 = c10.before.before.before.before.before.before in let c18 = c16.before.before in let c30 = c18.before.before.before.before.before.before.before.before.before.before.before.before in asked_done _ _ _ _ _ (c30.requires) (omega (arith, c18.if1.false)) (c16.if2.false) (c10.verdict.ensures)
 
 pub asked-spec : {M : Type 1} → statement M
 asked-spec =

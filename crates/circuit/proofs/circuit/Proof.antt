@@ -29,7 +29,7 @@ same-length-5 : tie.Need-same-length-5
 same-length-5 c = search rules
 
 returns : tie.Need-returns
-returns c = let c14 = c.before.before.before.before.before.before.before.before.before.before.before.before.before.before in let c26 = c14.before.before.before.before.before.before.before.before.before.before.before.before in record { answered = c14.circuit-read.ensures; zeros = zeros_left c26.args.work.now c14.circuit-read.new.1.1.1.1.0 c14.circuit-read.auto.1.1.1.1.0 c.before.before.zero-work.ensures }
+returns c = let c14 = c.before.before.before.before.before.before.before.before.before.before.before.before.before.before in let c26 = c14.before.before.before.before.before.before.before.before.before.before.before.before in (c14.circuit-read.ensures, zeros_left (c26.args.work.now) (c14.circuit-read.new.1.1.1.1.0) (c14.circuit-read.auto.1.1.1.1.0) (c.before.before.zero-work.ensures))
 
 pub circuit-spec : {M : Type 1} → statement M
 circuit-spec =

@@ -1,7 +1,5 @@
 use Rattle.circuit.proofs.Verdicts.{never_out_of_range, never_unsound, ready_asks}
 use borrow.Author.Rules.{rules}
-use native.Mathlib.Omega.{arith}
-use Rattle.table.proofs.Sizes.{needed_index}
 use Rattle.circuit.proofs.verdict.Statement.{statement}
 use Rattle.circuit.proofs.verdict.Tie as tie
 use Rattle.circuit.proofs.verdict.Reads as reads
@@ -13,7 +11,7 @@ cast-check : tie.Need-overflow-cast-check
 cast-check c = search rules
 
 check-requires : tie.Need-check-requires
-check-requires c κs = let c15 = c.before.before.before.before.before.before.before.before.before.before.before.before.before.before.before in needed_index _ (c15.requires.1)
+check-requires c κs = search rules
 
 enum_told : tie.Need-enum-told
 enum_told c = search rules
@@ -25,7 +23,7 @@ enum-told-3 : tie.Need-enum-told-3
 enum-told-3 c = search rules
 
 verdict-ready-requires : tie.Need-verdict-ready-requires
-verdict-ready-requires c κs = let c5 = c.before.before.before.before.before in let c9 = c5.before.before.before.before in let c25 = c9.before.before.before.before.before.before.before.before.before.before.before.before.before.before.before.before in ready_asks _ _ _ _ _ ((c25.requires.0)) ((c9.check.ensures)) ((c5.enum-told3.given.1)) (omega (arith, c25.requires.1, c9.check.auto.1.1.1.1.1.0))
+verdict-ready-requires c κs = let c5 = c.before.before.before.before.before in let c9 = c5.before.before.before.before in let c25 = c9.before.before.before.before.before.before.before.before.before.before.before.before.before.before.before.before in ready_asks _ _ _ _ _ (c25.requires) (c9.check.ensures) (c5.enum-told3.given.1)
 
 same_length : tie.Need-same-length
 same_length c = search rules
@@ -40,7 +38,7 @@ same-length-4 : tie.Need-same-length-4
 same-length-4 c = search rules
 
 returns : tie.Need-returns
-returns c = let c4 = c.before.before.before.before in let c20 = c4.before.before.before.before.before.before.before.before.before.before.before.before.before.before.before.before in absurd (never_out_of_range _ _ _ _ _ ((c20.requires.0)) ((c4.check.ensures)) ((c.enum_told.given.1)))
+returns c = let c4 = c.before.before.before.before in let c20 = c4.before.before.before.before.before.before.before.before.before.before.before.before.before.before.before.before in absurd (never_out_of_range _ _ _ _ _ (c20.requires) (c4.check.ensures) (c.enum_told.given.1))
 
 same-length-5 : tie.Need-same-length-5
 same-length-5 c = search rules
@@ -55,7 +53,7 @@ same-length-8 : tie.Need-same-length-8
 same-length-8 c = search rules
 
 returns-2 : tie.Need-returns-2
-returns-2 c = let c4 = c.before.before.before.before in let c20 = c4.before.before.before.before.before.before.before.before.before.before.before.before.before.before.before.before in absurd (never_unsound _ _ _ _ _ ((c20.requires.0)) ((c4.check.ensures)) ((c.enum-told2.given.1)))
+returns-2 c = let c4 = c.before.before.before.before in let c20 = c4.before.before.before.before.before.before.before.before.before.before.before.before.before.before.before.before in absurd (never_unsound _ _ _ _ _ (c20.requires) (c4.check.ensures) (c.enum-told2.given.1))
 
 same-length-9 : tie.Need-same-length-9
 same-length-9 c = search rules

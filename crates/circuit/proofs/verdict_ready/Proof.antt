@@ -12,19 +12,16 @@ mul-t16 : tie.Need-overflow-mul-t16
 mul-t16 c = search rules
 
 shared-slice-read-t18 : tie.Need-shared-slice-read-t18
-shared-slice-read-t18 c = let c11 = c.before.before.before.before.before.before.before.before.before.before.before in output_there _ _ _ _ _ _ ((c11.requires))
+shared-slice-read-t18 c = let c11 = c.before.before.before.before.before.before.before.before.before.before.before in output_there _ _ _ _ _ _ (c11.requires)
 
 cast-output : tie.Need-overflow-cast-output
 cast-output c = search rules
 
-forget-requires : tie.Need-forget-requires
-forget-requires c κs = let c12 = c.before.before.before.before.before.before.before.before.before.before.before.before in (c12.requires.needed)
-
 output-requires : tie.Need-output-requires
-output-requires c κs = let c7 = c.before.before.before.before.before.before.before in let c20 = c7.before.before.before.before.before.before.before.before.before.before.before.before.before in output_asks _ _ _ _ _ _ ((c20.requires)) _ (c7.forget.ensures)
+output-requires c κs = let c16 = c.before.before.before.before.before.before.before.before.before.before.before.before.before.before.before.before in output_asks _ _ _ _ _ _ (c16.requires)
 
 ended-requires : tie.Need-ended-requires
-ended-requires c κs = let c12 = c.before.before.before.before.before.before.before.before.before.before.before.before in let c33 = c12.before.before.before.before.before.before.before.before.before.before.before.before.before.before.before.before.before.before.before.before.before in end_asks _ _ _ _ _ _ ((c33.requires)) _ _ _ _ ((c12.output.ensures))
+ended-requires c κs = let c12 = c.before.before.before.before.before.before.before.before.before.before.before.before in let c29 = c12.before.before.before.before.before.before.before.before.before.before.before.before.before.before.before.before.before in end_asks _ _ _ _ _ _ (c29.requires) _ _ _ (c12.output.ensures)
 
 same_length : tie.Need-same-length
 same_length c = search rules
@@ -42,7 +39,7 @@ same-length-5 : tie.Need-same-length-5
 same-length-5 c = search rules
 
 returns : tie.Need-returns
-returns c = let c8 = c.before.before.before.before.before.before.before.before in let c21 = c8.before.before.before.before.before.before.before.before.before.before.before.before.before in let c42 = c21.before.before.before.before.before.before.before.before.before.before.before.before.before.before.before.before.before.before.before.before.before in ready_done _ _ _ _ _ _ ((c42.requires)) _ _ _ _ ((c21.output.ensures)) _ refl ((c8.ended.ensures))
+returns c = let c8 = c.before.before.before.before.before.before.before.before in let c21 = c8.before.before.before.before.before.before.before.before.before.before.before.before.before in let c38 = c21.before.before.before.before.before.before.before.before.before.before.before.before.before.before.before.before.before in ready_done _ _ _ _ _ _ (c38.requires) _ _ _ (c21.output.ensures) _ refl (c8.ended.ensures)
 
 pub verdict-ready-spec : {M : Type 1} → statement M
 verdict-ready-spec =
@@ -50,7 +47,6 @@ verdict-ready-spec =
     (tie.spec
     mul-t16
     shared-slice-read-t18
-    forget-requires
     cast-output
     output-requires
     ended-requires

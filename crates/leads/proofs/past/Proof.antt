@@ -1,4 +1,4 @@
-use Rattle.leads.proofs.Passing.{is_past, is_at_lead}
+use Rattle.leads.proofs.Walking.{is_past, is_at_lead}
 use native.Mathlib.Omega.{arith}
 use Rattle.leads.proofs.past.Statement.{statement}
 use Rattle.leads.proofs.past.Tie as tie

@@ -1,5 +1,3 @@
-use native.Mathlib.Omega.{arith}
-use Rattle.table.proofs.Sizes.{needed_most}
 use mathlib.Core.Path.{refl, sym}
 use borrow.Author.Rules.{rules}
 use Rattle.mullagrane.proofs.Parts.{counted, inputs_fit, table_fresh, read_asks, made_ready}
@@ -27,7 +25,7 @@ slice-aggregate-system-4 : tie.Need-slice-aggregate-system-4
 slice-aggregate-system-4 c = search rules
 
 system-requires : tie.Need-system-requires
-system-requires c κs = let c10 = c.before.before.before.before.before.before.before.before.before.before in (read_asks (c10.requires) table_fresh, needed_most _ (omega arith))
+system-requires c κs = let c10 = c.before.before.before.before.before.before.before.before.before.before in read_asks c10.requires table_fresh
 
 slice-aggregate-print-all : tie.Need-slice-aggregate-print-all
 slice-aggregate-print-all c = search rules
@@ -42,13 +40,13 @@ slice-aggregate-print-all-4 : tie.Need-slice-aggregate-print-all-4
 slice-aggregate-print-all-4 c = search rules
 
 array-borrow-prefix-pattern : tie.Need-array-borrow-prefix-pattern
-array-borrow-prefix-pattern c = let c19 = c.before.before.before.before.before.before.before.before.before.before.before.before.before.before.before.before.before.before.before in inputs_fit (c19.requires) refl
+array-borrow-prefix-pattern c = let c19 = c.before.before.before.before.before.before.before.before.before.before.before.before.before.before.before.before.before.before.before in inputs_fit c19.requires refl
 
 slice-aggregate-print-all-5 : tie.Need-slice-aggregate-print-all-5
-slice-aggregate-print-all-5 c = let c20 = c.before.before.before.before.before.before.before.before.before.before.before.before.before.before.before.before.before.before.before.before in counted _ _ (inputs_fit (c20.requires) refl)
+slice-aggregate-print-all-5 c = let c20 = c.before.before.before.before.before.before.before.before.before.before.before.before.before.before.before.before.before.before.before.before in counted _ _ (inputs_fit c20.requires refl)
 
 print-all-requires : tie.Need-print-all-requires
-print-all-requires c κs = let c9 = c.before.before.before.before.before.before.before.before.before in let c20 = c9.before.before.before.before.before.before.before.before.before.before.before in (made_ready (c20.requires) (c9.system.ensures) (sym (counted _ _ (inputs_fit (c20.requires) refl))), needed_most _ (omega (arith, c9.system.auto.1.1.1.1.1.1.1.1.1.0)))
+print-all-requires c κs = let c9 = c.before.before.before.before.before.before.before.before.before in let c20 = c9.before.before.before.before.before.before.before.before.before.before.before in made_ready c20.requires c9.system.ensures (sym (counted _ _ (inputs_fit c20.requires refl)))
 
 returns : tie.Need-returns
 returns c = search rules

@@ -48,7 +48,7 @@ slice-aggregate-judge-net-5 : tie.Need-slice-aggregate-judge-net-5
 slice-aggregate-judge-net-5 c = search rules
 
 judge-net-requires : tie.Need-judge-net-requires
-judge-net-requires c κs = let c6 = c.before.before.before.before.before.before in let c13 = c6.before.before.before.before.before.before.before in read_whole (c13.read-net.ensures) (c6.r.given.1) (record { ins_long = omega (arith, (c13.read-net.auto.1.0)); outs_long = omega (arith, (c13.read-net.auto.1.1.0)); lefts_long = omega (arith, (c13.read-net.auto.1.1.1.0)); rights0_long = omega (arith, (c13.read-net.auto.1.1.1.1.0)); rights1_long = omega (arith, (c13.read-net.auto.1.1.1.1.1.0)) })
+judge-net-requires c κs = let c6 = c.before.before.before.before.before.before in let c13 = c6.before.before.before.before.before.before.before in read_whole c13.read-net.ensures c6.r.given.1 (record { ins_long = omega (arith, c13.read-net.auto.1.0); outs_long = omega (arith, c13.read-net.auto.1.1.0); lefts_long = omega (arith, c13.read-net.auto.1.1.1.0); rights0_long = omega (arith, c13.read-net.auto.1.1.1.1.0); rights1_long = omega (arith, c13.read-net.auto.1.1.1.1.1.0) })
 
 enum-known-r-2 : tie.Need-enum-known-r-2
 enum-known-r-2 c = search rules

@@ -1,6 +1,5 @@
-use Rattle.table.proofs.Leaves.{appends}
+use borrow.Author.Rules.{rules}
 use Rattle.checks.proofs.Endings.{zeros_left}
-use Rattle.normal.proofs.CallLaws.{equation_stays}
 use borrow.Author.Rules.{rules}
 use Rattle.normal.proofs.equation.Statement.{statement}
 use Rattle.normal.proofs.equation.Tie as tie
@@ -28,7 +27,7 @@ same-length-4 : tie.Need-same-length-4
 same-length-4 c = search rules
 
 returns : tie.Need-returns
-returns c = let c12 = c.before.before.before.before.before.before.before.before.before.before.before.before in let c21 = c12.before.before.before.before.before.before.before.before.before in appends _ _ (equation_stays _ _ _ _ _ _) c12.equation_checked.ensures (zeros_left c21.args.work.now c12.equation_checked.new.1.1.1.1.1.0 c12.equation_checked.auto.1.1.1.1.1.0 c.before.before.zero-work.ensures)
+returns c = let c12 = c.before.before.before.before.before.before.before.before.before.before.before.before in let c21 = c12.before.before.before.before.before.before.before.before.before in (c12.equation_checked.ensures, zeros_left (c21.args.work.now) (c12.equation_checked.new.1.1.1.1.1.0) (c12.equation_checked.auto.1.1.1.1.1.0) c.before.before.zero-work.ensures)
 
 pub equation-spec : {M : Type 1} → statement M
 equation-spec =

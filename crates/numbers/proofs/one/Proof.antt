@@ -21,7 +21,7 @@ same-length-2 : tie.Need-same-length-2
 same-length-2 c = search rules
 
 returns : tie.Need-returns
-returns c = let c8 = c.before.before.before.before.before.before.before.before in let c16 = c8.before.before.before.before.before.before.before.before in record { is = c8.one_checked.ensures; means = one_call_means _ _ _ _ _ _ _ c8.one_checked.ensures; zeros = zeros_left c16.args.work.now c8.one_checked.new.1.1.1.1.1.0 c8.one_checked.auto.1.1.1.1.1.0 c.before.before.zero-work.ensures }
+returns c = let c8 = c.before.before.before.before.before.before.before.before in let c16 = c8.before.before.before.before.before.before.before.before in (c8.one_checked.ensures, (one_call_means _ _ _ _ _ _ _ c8.one_checked.ensures, zeros_left c16.args.work.now c8.one_checked.new.1.1.1.1.1.0 c8.one_checked.auto.1.1.1.1.1.0 c.before.before.zero-work.ensures))
 
 pub one_spec : {M : Type 1} → statement M
 one_spec =

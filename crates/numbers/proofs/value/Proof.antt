@@ -17,7 +17,7 @@ same_length : tie.Need-same-length
 same_length c = search rules
 
 returns : tie.Need-returns
-returns c = let c6 = c.before.before.before.before.before.before in let c13 = c6.before.before.before.before.before.before.before in record { is = c6.value_checked.ensures; zeros = zeros_left c13.args.work.now c6.value_checked.new.1.1.1.1.1.0 c6.value_checked.auto.1.1.1.1.1.0 c.before.before.zero-work.ensures }
+returns c = let c6 = c.before.before.before.before.before.before in let c13 = c6.before.before.before.before.before.before.before in (c6.value_checked.ensures, zeros_left c13.args.work.now c6.value_checked.new.1.1.1.1.1.0 c6.value_checked.auto.1.1.1.1.1.0 c.before.before.zero-work.ensures)
 
 pub value_spec : {M : Type 1} → statement M
 value_spec = tie.close (tie.spec value-checked-requires zero-work-requires same_length returns)

@@ -1,9 +1,6 @@
-use native.Mathlib.Omega.{arith}
-use Rattle.table.proofs.Sizes.{needed_index}
-use Rattle.table.proofs.Words.{live_forgets}
 use mathlib.Core.Path.{refl}
 use borrow.Author.Rules.{rules}
-use Rattle.checks.proofs.Endings.{fine_ready}
+use Rattle.checks.proofs.Endings.{fine_live}
 use Rattle.outputs.proofs.Judging.{not_out_of_range, not_unsound, judge_few, judge_lent, judge_sound, output_there, from_asked, judged_as}
 use borrow.Author.Rules.{rules}
 use Rattle.outputs.proofs.judge.Statement.{statement}
@@ -17,7 +14,7 @@ cast-check : tie.Need-overflow-cast-check
 cast-check c = search rules
 
 check-requires : tie.Need-check-requires
-check-requires c κs = let c15 = c.before.before.before.before.before.before.before.before.before.before.before.before.before.before.before in needed_index _ (c15.requires.1)
+check-requires c κs = search rules
 
 enum_told : tie.Need-enum-told
 enum_told c = search rules
@@ -26,13 +23,10 @@ mul-t28 : tie.Need-overflow-mul-t28
 mul-t28 c = search rules
 
 shared-slice-read-t30 : tie.Need-shared-slice-read-t30
-shared-slice-read-t30 c = let c21 = c.before.before.before.before.before.before.before.before.before.before.before.before.before.before.before.before.before.before.before.before.before in output_there _ _ _ _ _ _ _ (c21.requires.0)
-
-forget-requires : tie.Need-forget-requires
-forget-requires c κs = let c6 = c.before.before.before.before.before.before in let c22 = c6.before.before.before.before.before.before.before.before.before.before.before.before.before.before.before.before in omega (arith, c22.requires.1, c6.check.auto.1.1.1.1.1.0)
+shared-slice-read-t30 c = let c21 = c.before.before.before.before.before.before.before.before.before.before.before.before.before.before.before.before.before.before.before.before.before in output_there _ _ _ _ _ _ _ c21.requires
 
 judge-from-requires : tie.Need-judge-from-requires
-judge-from-requires c κs = let c7 = c.before.before.before.before.before.before.before in let c10 = c7.before.before.before in let c14 = c10.before.before.before.before in let c30 = c14.before.before.before.before.before.before.before.before.before.before.before.before.before.before.before.before in from_asked _ _ _ _ _ _ _ (c30.requires.0) _ (let d = fine_ready (c14.check.ensures) (c10.enum_told.given.1) in live_forgets d.few d.sound d.indexed (c7.forget.ensures))
+judge-from-requires c κs = let c6 = c.before.before.before.before.before.before in let c10 = c6.before.before.before.before in let c26 = c10.before.before.before.before.before.before.before.before.before.before.before.before.before.before.before.before in from_asked _ _ _ _ _ _ _ c26.requires _ (fine_live c10.check.ensures c6.enum_told.given.1)
 
 enum-told-2 : tie.Need-enum-told-2
 enum-told-2 c = search rules
@@ -56,7 +50,7 @@ same-length-5 : tie.Need-same-length-5
 same-length-5 c = search rules
 
 returns : tie.Need-returns
-returns c = let c10 = c.before.before.before.before.before.before.before.before.before.before in let c41 = c10.before.before.before.before.before.before.before.before.before.before.before.before.before.before.before.before.before.before.before.before.before.before.before.before.before.before.before.before.before.before.before in judged_as _ _ _ _ _ _ _ (c41.requires.0) _ refl (c10.judge-from.ensures)
+returns c = let c10 = c.before.before.before.before.before.before.before.before.before.before in let c37 = c10.before.before.before.before.before.before.before.before.before.before.before.before.before.before.before.before.before.before.before.before.before.before.before.before.before.before.before in judged_as _ _ _ _ _ _ _ c37.requires _ refl c10.judge-from.ensures
 
 same-length-6 : tie.Need-same-length-6
 same-length-6 c = search rules
@@ -71,7 +65,7 @@ same-length-9 : tie.Need-same-length-9
 same-length-9 c = search rules
 
 returns-2 : tie.Need-returns-2
-returns-2 c = let c4 = c.before.before.before.before in let c20 = c4.before.before.before.before.before.before.before.before.before.before.before.before.before.before.before.before in absurd (not_out_of_range _ _ _ (judge_few _ _ _ _ _ _ _ (c20.requires.0)) (judge_lent _ _ _ _ _ _ _ (c20.requires.0)) (judge_sound _ _ _ _ _ _ _ (c20.requires.0)) (c4.check.ensures) (c.enum-told2.given.1))
+returns-2 c = let c4 = c.before.before.before.before in let c20 = c4.before.before.before.before.before.before.before.before.before.before.before.before.before.before.before.before in absurd (not_out_of_range _ _ _ (judge_few _ _ _ _ _ _ _ c20.requires) (judge_lent _ _ _ _ _ _ _ c20.requires) (judge_sound _ _ _ _ _ _ _ c20.requires) c4.check.ensures c.enum-told2.given.1)
 
 same-length-10 : tie.Need-same-length-10
 same-length-10 c = search rules
@@ -86,7 +80,7 @@ same-length-13 : tie.Need-same-length-13
 same-length-13 c = search rules
 
 returns-3 : tie.Need-returns-3
-returns-3 c = let c4 = c.before.before.before.before in let c20 = c4.before.before.before.before.before.before.before.before.before.before.before.before.before.before.before.before in absurd (not_unsound _ _ _ (judge_few _ _ _ _ _ _ _ (c20.requires.0)) (judge_lent _ _ _ _ _ _ _ (c20.requires.0)) (judge_sound _ _ _ _ _ _ _ (c20.requires.0)) (c4.check.ensures) (c.enum-told3.given.1))
+returns-3 c = let c4 = c.before.before.before.before in let c20 = c4.before.before.before.before.before.before.before.before.before.before.before.before.before.before.before.before in absurd (not_unsound _ _ _ (judge_few _ _ _ _ _ _ _ c20.requires) (judge_lent _ _ _ _ _ _ _ c20.requires) (judge_sound _ _ _ _ _ _ _ c20.requires) c4.check.ensures c.enum-told3.given.1)
 
 pub judge-spec : {M : Type 1} → statement M
 judge-spec =
@@ -97,7 +91,6 @@ judge-spec =
     enum_told
     mul-t28
     shared-slice-read-t30
-    forget-requires
     judge-from-requires
     enum-told-2
     enum-told-3

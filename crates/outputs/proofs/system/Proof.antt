@@ -1,7 +1,5 @@
-use native.Mathlib.Omega.{arith}
-use Rattle.table.proofs.Sizes.{needed_index}
 use borrow.Author.Rules.{rules}
-use Rattle.checks.proofs.Endings.{fine_ready}
+use Rattle.checks.proofs.Endings.{fine_live}
 use Rattle.outputs.proofs.Judging.{vars_few, empty_sound, not_out_of_range, not_unsound}
 use borrow.Author.Rules.{rules}
 use Rattle.outputs.proofs.system.Statement.{statement}
@@ -15,13 +13,13 @@ cast-check : tie.Need-overflow-cast-check
 cast-check c = search rules
 
 check-requires : tie.Need-check-requires
-check-requires c κs = let c14 = c.before.before.before.before.before.before.before.before.before.before.before.before.before.before in needed_index _ (c14.requires.1)
+check-requires c κs = search rules
 
 enum_told : tie.Need-enum-told
 enum_told c = search rules
 
 system-ready-requires : tie.Need-system-ready-requires
-system-ready-requires c κs = let c4 = c.before.before.before.before in let c8 = c4.before.before.before.before in let c23 = c8.before.before.before.before.before.before.before.before.before.before.before.before.before.before.before in (((c23.requires.0), fine_ready (c8.check.ensures) (c4.enum_told.given.1)), omega (arith, c23.requires.1, c8.check.auto.1.1.1.1.1.0))
+system-ready-requires c κs = let c4 = c.before.before.before.before in let c8 = c4.before.before.before.before in let c23 = c8.before.before.before.before.before.before.before.before.before.before.before.before.before.before.before in (c23.requires, fine_live c8.check.ensures c4.enum_told.given.1)
 
 enum-told-2 : tie.Need-enum-told-2
 enum-told-2 c = search rules
@@ -42,7 +40,7 @@ same-length-4 : tie.Need-same-length-4
 same-length-4 c = search rules
 
 returns : tie.Need-returns
-returns c = let c8 = c.before.before.before.before.before.before.before.before in (c8.system-ready.ensures)
+returns c = let c8 = c.before.before.before.before.before.before.before.before in c8.system-ready.ensures
 
 same-length-5 : tie.Need-same-length-5
 same-length-5 c = search rules
@@ -57,7 +55,7 @@ same-length-8 : tie.Need-same-length-8
 same-length-8 c = search rules
 
 returns-2 : tie.Need-returns-2
-returns-2 c = let c4 = c.before.before.before.before in let c19 = c4.before.before.before.before.before.before.before.before.before.before.before.before.before.before.before in absurd (not_out_of_range _ _ _ (vars_few _ _ _ (c19.requires.0)) ((c19.requires.0.lent)) (empty_sound _ _ _ (c19.requires.0)) (c4.check.ensures) (c.enum-told2.given.1))
+returns-2 c = let c4 = c.before.before.before.before in let c19 = c4.before.before.before.before.before.before.before.before.before.before.before.before.before.before.before in absurd (not_out_of_range _ _ _ (vars_few _ _ _ c19.requires) (c19.requires.lent) (empty_sound _ _ _ c19.requires) c4.check.ensures c.enum-told2.given.1)
 
 same-length-9 : tie.Need-same-length-9
 same-length-9 c = search rules
@@ -72,7 +70,7 @@ same-length-12 : tie.Need-same-length-12
 same-length-12 c = search rules
 
 returns-3 : tie.Need-returns-3
-returns-3 c = let c4 = c.before.before.before.before in let c19 = c4.before.before.before.before.before.before.before.before.before.before.before.before.before.before.before in absurd (not_unsound _ _ _ (vars_few _ _ _ (c19.requires.0)) ((c19.requires.0.lent)) (empty_sound _ _ _ (c19.requires.0)) (c4.check.ensures) (c.enum-told3.given.1))
+returns-3 c = let c4 = c.before.before.before.before in let c19 = c4.before.before.before.before.before.before.before.before.before.before.before.before.before.before.before in absurd (not_unsound _ _ _ (vars_few _ _ _ c19.requires) (c19.requires.lent) (empty_sound _ _ _ c19.requires) c4.check.ensures c.enum-told3.given.1)
 
 pub system-spec : {M : Type 1} → statement M
 system-spec =

@@ -1,7 +1,6 @@
 use Rattle.pairs.specs.Calls.{steps_of, op_of}
 use native.Mathlib.Omega.{arith}
 use Rattle.table.proofs.Takes.{taken_lends}
-use Rattle.table.proofs.Words.{live_forgets}
 use Rattle.pairs.proofs.PairCalls.{left_out, right_out, pair_done, operation_law}
 use borrow.Author.Rules.{rules}
 use Rattle.pairs.proofs.pair_ready.Statement.{statement}
@@ -18,7 +17,7 @@ cast-if1 : tie.Need-overflow-cast-if1
 cast-if1 c = search rules
 
 returns : tie.Need-returns
-returns c = let c6 = c.before.before.before.before.before.before in left_out (op_of (c6.args.op)) (steps_of (c6.args.op) (c6.args.n) (c6.args.f).0 (c6.args.g).0) _ _ _ _ (c.if1.true)
+returns c = let c6 = c.before.before.before.before.before.before in left_out (op_of c6.args.op) (steps_of c6.args.op c6.args.n c6.args.f.0 c6.args.g.0) _ _ _ _ c.if1.true
 
 add-if2 : tie.Need-overflow-add-if2
 add-if2 c = search rules
@@ -27,19 +26,16 @@ cast-if2 : tie.Need-overflow-cast-if2
 cast-if2 c = search rules
 
 returns-2 : tie.Need-returns-2
-returns-2 c = let c8 = c.before.before.before.before.before.before.before.before in right_out (op_of (c8.args.op)) (steps_of (c8.args.op) (c8.args.n) (c8.args.f).0 (c8.args.g).0) _ _ _ _ (c.before.before.if1.false) (c.if2.true)
-
-forget-requires : tie.Need-forget-requires
-forget-requires c κs = let c9 = c.before.before.before.before.before.before.before.before.before in (c9.requires.1)
+returns-2 c = let c8 = c.before.before.before.before.before.before.before.before in right_out (op_of c8.args.op) (steps_of c8.args.op c8.args.n c8.args.f.0 c8.args.g.0) _ _ _ _ c.before.before.if1.false c.if2.true
 
 cast-take-steps : tie.Need-overflow-cast-take-steps
-cast-take-steps c = let c16 = c.before.before.before.before.before.before.before.before.before.before.before.before.before.before.before.before in omega (arith, c16.requires.0.few)
+cast-take-steps c = let c12 = c.before.before.before.before.before.before.before.before.before.before.before.before in omega (arith, c12.requires.1)
 
 take-steps-requires : tie.Need-take-steps-requires
-take-steps-requires c κs = let c6 = c.before.before.before.before.before.before in let c8 = c6.before.before in let c10 = c8.before.before in let c16 = c10.before.before.before.before.before.before in record { live = live_forgets (c16.requires.0.few) (c16.requires.0.sound) (c16.requires.0.indexed) (c6.forget.ensures); left = (c10.if1.false); right = (c8.if2.false) }
+take-steps-requires c κs = let c4 = c.before.before.before.before in let c6 = c4.before.before in let c12 = c6.before.before.before.before.before.before in record { live = c12.requires.0; left = c6.if1.false; right = c4.if2.false }
 
 finish-requires : tie.Need-finish-requires
-finish-requires c κs = let c11 = c.before.before.before.before.before.before.before.before.before.before.before in let c28 = c11.before.before.before.before.before.before.before.before.before.before.before.before.before.before.before.before.before in taken_lends (c28.requires.0.indexed.lent) (c11.take_steps.ensures.taken)
+finish-requires c κs = let c11 = c.before.before.before.before.before.before.before.before.before.before.before in let c24 = c11.before.before.before.before.before.before.before.before.before.before.before.before.before in taken_lends c24.requires.0.indexed.lent c11.take_steps.ensures.taken
 
 same_length : tie.Need-same-length
 same_length c = search rules
@@ -54,7 +50,7 @@ same-length-4 : tie.Need-same-length-4
 same-length-4 c = search rules
 
 returns-3 : tie.Need-returns-3
-returns-3 c = let c6 = c.before.before.before.before.before.before in let c18 = c6.before.before.before.before.before.before.before.before.before.before.before.before in let c27 = c18.before.before.before.before.before.before.before.before.before in let c29 = c27.before.before in let c35 = c29.before.before.before.before.before.before in pair_done (op_of (c35.args.op)) _ _ _ _ _ (c29.if1.false) (c27.if2.false) (c35.requires.0.indexed.lent) (operation_law (c35.args.op) _ _ _ _ _ (c35.requires.0.sound) (c29.if1.false) (c27.if2.false)) (c18.take_steps.ensures.taken) (c6.finish.ensures)
+returns-3 c = let c6 = c.before.before.before.before.before.before in let c18 = c6.before.before.before.before.before.before.before.before.before.before.before.before in let c23 = c18.before.before.before.before.before in let c25 = c23.before.before in let c31 = c25.before.before.before.before.before.before in pair_done (op_of c31.args.op) _ _ _ _ _ c25.if1.false c23.if2.false c31.requires.0.indexed.lent (operation_law c31.args.op _ _ _ _ _ _ c31.requires.0 c25.if1.false c23.if2.false) c18.take_steps.ensures.taken c6.finish.ensures
 
 pub pair-ready-spec : {M : Type 1} → statement M
 pair-ready-spec =
@@ -66,7 +62,6 @@ pair-ready-spec =
     add-if2
     cast-if2
     returns-2
-    forget-requires
     cast-take-steps
     take-steps-requires
     finish-requires

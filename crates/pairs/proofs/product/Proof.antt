@@ -1,6 +1,4 @@
-use Rattle.table.proofs.Leaves.{appends}
 use Rattle.checks.proofs.Endings.{zeros_left}
-use Rattle.pairs.proofs.PairCalls.{product_stays}
 use borrow.Author.Rules.{rules}
 use Rattle.pairs.proofs.product.Statement.{statement}
 use Rattle.pairs.proofs.product.Tie as tie
@@ -28,7 +26,7 @@ same-length-4 : tie.Need-same-length-4
 same-length-4 c = search rules
 
 returns : tie.Need-returns
-returns c = let c12 = c.before.before.before.before.before.before.before.before.before.before.before.before in let c21 = c12.before.before.before.before.before.before.before.before.before in appends _ _ (product_stays _ _ _ _ _) c12.pair_checked.ensures (zeros_left c21.args.work.now c12.pair_checked.new.1.1.1.1.1.1.0 c12.pair_checked.auto.1.1.1.1.1.1.0 c.before.before.zero-work.ensures)
+returns c = let c12 = c.before.before.before.before.before.before.before.before.before.before.before.before in let c21 = c12.before.before.before.before.before.before.before.before.before in (c12.pair_checked.ensures, zeros_left c21.args.work.now c12.pair_checked.new.1.1.1.1.1.1.0 c12.pair_checked.auto.1.1.1.1.1.1.0 c.before.before.zero-work.ensures)
 
 pub product-spec : {M : Type 1} → statement M
 product-spec =

@@ -1,4 +1,3 @@
-use native.Mathlib.Omega.{arith}
 use Rattle.printing.proofs.Verdicts.{judge_asks, prints_judged, prints_full}
 use borrow.Author.Rules.{rules}
 use Rattle.printing.proofs.print.Statement.{statement}
@@ -12,16 +11,16 @@ enum-known-made : tie.Need-enum-known-made
 enum-known-made c = search rules
 
 judge-requires : tie.Need-judge-requires
-judge-requires c κs = let c6 = c.before.before.before.before.before.before in let c19 = c6.before.before.before.before.before.before.before.before.before.before.before.before.before in (judge_asks (c19.requires.0) (c6.made.given.1), (c19.requires.1))
+judge-requires c κs = let c6 = c.before.before.before.before.before.before in let c19 = c6.before.before.before.before.before.before.before.before.before.before.before.before.before in judge_asks c19.requires c6.made.given.1
 
 block-requires : tie.Need-block-requires
-block-requires c κs = let c12 = c.before.before.before.before.before.before.before.before.before.before.before.before in let c32 = c12.before.before.before.before.before.before.before.before.before.before.before.before.before.before.before.before.before.before.before.before in omega (arith, c32.requires.0.room, c12.judge.auto.1.1.1.1.1.1.1.1.1.1.1.1.1.0)
+block-requires c κs = search rules
 
 enum_told : tie.Need-enum-told
 enum_told c = search rules
 
 block-requires-2 : tie.Need-block-requires-2
-block-requires-2 c κs = let c15 = c.before.before.before.before.before.before.before.before.before.before.before.before.before.before.before in omega (arith, c15.requires.0.room)
+block-requires-2 c κs = search rules
 
 same_length : tie.Need-same-length
 same_length c = search rules
@@ -42,7 +41,7 @@ same-length-6 : tie.Need-same-length-6
 same-length-6 c = search rules
 
 returns : tie.Need-returns
-returns c = let c15 = c.before.before.before.before.before.before.before.before.before.before.before.before.before.before.before in let c22 = c15.before.before.before.before.before.before.before in let c35 = c22.before.before.before.before.before.before.before.before.before.before.before.before.before in prints_judged (c35.requires.0) (c22.made.given.1) (c15.judge.ensures) (c.before.before.block.ensures)
+returns c = let c15 = c.before.before.before.before.before.before.before.before.before.before.before.before.before.before.before in let c22 = c15.before.before.before.before.before.before.before in let c35 = c22.before.before.before.before.before.before.before.before.before.before.before.before.before in prints_judged c35.requires c22.made.given.1 c15.judge.ensures c.before.before.block.ensures
 
 same-length-7 : tie.Need-same-length-7
 same-length-7 c = search rules
@@ -51,7 +50,7 @@ same-length-8 : tie.Need-same-length-8
 same-length-8 c = search rules
 
 returns-2 : tie.Need-returns-2
-returns-2 c = let c5 = c.before.before.before.before.before in let c18 = c5.before.before.before.before.before.before.before.before.before.before.before.before.before in prints_full (c18.requires.0) (c5.enum_told.given.1) (c.before.before.block2.ensures)
+returns-2 c = let c5 = c.before.before.before.before.before in let c18 = c5.before.before.before.before.before.before.before.before.before.before.before.before.before in prints_full c18.requires c5.enum_told.given.1 c.before.before.block2.ensures
 
 pub print-spec : {M : Type 1} → statement M
 print-spec =

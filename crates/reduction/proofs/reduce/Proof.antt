@@ -10,10 +10,10 @@ use Rattle.leads.proofs.fill.Reads as fill-reads
 use Rattle.reduction.proofs.normal_form.Reads as normal-form-reads
 
 fill-requires : tie.Need-fill-requires
-fill-requires c κs = let c8 = c.before.before.before.before.before.before.before.before in ((c8.requires.live), (c8.requires.system))
+fill-requires c κs = let c8 = c.before.before.before.before.before.before.before.before in (c8.requires.live, c8.requires.system)
 
 normal-form-requires : tie.Need-normal-form-requires
-normal-form-requires c κs = let c6 = c.before.before.before.before.before.before in let c15 = c6.before.before.before.before.before.before.before.before.before in reduce_asks _ _ _ _ _ _ (c15.requires) _ (c6.fill.ensures)
+normal-form-requires c κs = let c6 = c.before.before.before.before.before.before in let c15 = c6.before.before.before.before.before.before.before.before.before in reduce_asks _ _ _ _ _ _ c15.requires _ c6.fill.ensures
 
 same_length : tie.Need-same-length
 same_length c = search rules
@@ -25,10 +25,10 @@ same-length-3 : tie.Need-same-length-3
 same-length-3 c = search rules
 
 same-length-4 : tie.Need-same-length-4
-same-length-4 c = let c8 = c.before.before.before.before.before.before.before.before in let c15 = c8.before.before.before.before.before.before.before in (c8.normal-form.ensures.carries.same_length) ∙ (c15.fill.ensures.same_length)
+same-length-4 c = let c8 = c.before.before.before.before.before.before.before.before in let c15 = c8.before.before.before.before.before.before.before in c8.normal-form.ensures.behind.same_length ∙ c15.fill.ensures.same_length
 
 returns : tie.Need-returns
-returns c = let c8 = c.before.before.before.before.before.before.before.before in let c15 = c8.before.before.before.before.before.before.before in let c24 = c15.before.before.before.before.before.before.before.before.before in reduce_done _ _ _ _ _ _ (c24.requires) _ (c15.fill.ensures) (c8.normal-form.ensures)
+returns c = let c8 = c.before.before.before.before.before.before.before.before in let c15 = c8.before.before.before.before.before.before.before in let c24 = c15.before.before.before.before.before.before.before.before.before in reduce_done _ _ _ _ _ _ c24.requires _ c15.fill.ensures c8.normal-form.ensures
 
 pub reduce-spec : {M : Type 1} → statement M
 reduce-spec =

@@ -31,7 +31,7 @@ fn lent(text: &str, room: usize, inputs: usize) -> Lent {
 }
 
 fn ask(lent: &mut Lent, output: u64) -> Answer {
-    let answer = answer(lent, output);
+    let answer = answer(lent, output, u64::MAX).unwrap();
     assert_eq!(lent.work, [0; 4]);
     answer
 }

@@ -30,9 +30,9 @@ pub fn slices(rows: &[Written]) -> Slices {
     }
 }
 
-/// Makes a call.
+/// Makes a call without a bound on its steps.
 pub fn make(lent: &mut Lent, call: Call) -> Answer {
-    let answer = calls::answer(lent, call);
+    let answer = calls::answer(lent, call, u64::MAX).unwrap();
     assert_eq!(lent.work, vec![0; lent.work.len()], "the working slice is all zeros");
     answer
 }

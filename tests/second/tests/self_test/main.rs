@@ -3,7 +3,6 @@
 mod circuits;
 mod common;
 mod corpus;
-mod literal;
 mod protocol;
 mod proved_cases;
 mod refusals;

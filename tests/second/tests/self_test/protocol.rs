@@ -1,7 +1,5 @@
 //! The console's input and output.
 
-use std::collections::HashSet;
-
 use second::command::Command;
 use second::console::answer;
 use second::rng::Rng;
@@ -160,20 +158,5 @@ fn generated_cases_are_the_same_for_the_same_seed_and_all_answered() {
         assert_eq!(one, other);
         let answers = answered(&String::from_utf8(one).unwrap());
         assert_eq!(answers.lines().filter(|line| line.starts_with("end ")).count(), 200);
-    }
-}
-
-#[test]
-fn working_slices_of_all_lengths_are_lent() {
-    let (mut scripts, mut texts) = (Vec::new(), Vec::new());
-    gen_scripts::write(5, 3_000, &mut scripts).unwrap();
-    gen_texts::write(5, 3_000, &mut texts).unwrap();
-    for cases in [scripts, texts] {
-        let cases = String::from_utf8(cases).unwrap();
-        let length = |line: &str| line.strip_prefix("work ")?.split(' ').next()?.parse().ok();
-        let lengths: HashSet<usize> = cases.lines().filter_map(length).collect();
-        for length in [0, 1, 63, 127, 128, 1_024, 8_192, 8_300, 17_472, 67_584, 300_000] {
-            assert!(lengths.contains(&length), "{length} words");
-        }
     }
 }

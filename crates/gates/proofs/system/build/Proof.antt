@@ -58,7 +58,7 @@ same-length-3 : tie.Need-same-length-3 invariant-loop decreases-loop
 same-length-3 c = let c10 = c.before.before.before.before.before.before.before.before.before.before in let c18 = c10.before.before.before.before.before.before.before.before in let c19 = c18.before in (gate_full _ _ _ _ _ _ _ _ _ _ _ _ (c19.loop.invariant) (omega (arith, c18.loop-test.true)) (kept_is (c.enum_told.given.1) (c10.gate.ensures))).taken.elses
 
 same-length-4 : tie.Need-same-length-4 invariant-loop decreases-loop
-same-length-4 c = let c10 = c.before.before.before.before.before.before.before.before.before.before in let c18 = c10.before.before.before.before.before.before.before.before in let c19 = c18.before in (gate_full _ _ _ _ _ _ _ _ _ _ _ _ (c19.loop.invariant) (omega (arith, c18.loop-test.true)) (kept_is (c.enum_told.given.1) (c10.gate.ensures))).carries.same_length
+same-length-4 c = let c10 = c.before.before.before.before.before.before.before.before.before.before in let c18 = c10.before.before.before.before.before.before.before.before in let c19 = c18.before in (gate_full _ _ _ _ _ _ _ _ _ _ _ _ (c19.loop.invariant) (omega (arith, c18.loop-test.true)) (kept_is (c.enum_told.given.1) (c10.gate.ensures))).behind.same_length
 
 returns : tie.Need-returns invariant-loop decreases-loop
 returns c = let c10 = c.before.before.before.before.before.before.before.before.before.before in let c18 = c10.before.before.before.before.before.before.before.before in let c19 = c18.before in gate_full _ _ _ _ _ _ _ _ _ _ _ _ (c19.loop.invariant) (omega (arith, c18.loop-test.true)) (kept_is (c.enum_told.given.1) (c10.gate.ensures))
@@ -82,7 +82,7 @@ same-length-7 : tie.Need-same-length-7 invariant-loop decreases-loop
 same-length-7 c = (build_ends _ _ _ _ _ _ _ (c.before.loop.invariant) (omega (arith, c.loop-test.false))).taken.elses
 
 same-length-8 : tie.Need-same-length-8 invariant-loop decreases-loop
-same-length-8 c = (build_ends _ _ _ _ _ _ _ (c.before.loop.invariant) (omega (arith, c.loop-test.false))).carries.same_length
+same-length-8 c = (build_ends _ _ _ _ _ _ _ (c.before.loop.invariant) (omega (arith, c.loop-test.false))).behind.same_length
 
 returns-2 : tie.Need-returns-2 invariant-loop decreases-loop
 returns-2 c = build_ends _ _ _ _ _ _ _ (c.before.loop.invariant) (omega (arith, c.loop-test.false))

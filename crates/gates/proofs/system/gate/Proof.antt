@@ -70,7 +70,7 @@ same-length-11 : tie.Need-same-length-11
 same-length-11 c = let c8 = c.before.before.before.before.before.before.before.before in let c24 = c8.before.before.before.before.before.before.before.before.before.before.before.before.before.before.before.before in let c40 = c24.before.before.before.before.before.before.before.before.before.before.before.before.before.before.before.before in (c8.joined.ensures.taken.elses) ∙ (c24.literal2.ensures.taken.elses) ∙ (c40.literal.ensures.taken.elses)
 
 same-length-12 : tie.Need-same-length-12
-same-length-12 c = let c8 = c.before.before.before.before.before.before.before.before in let c24 = c8.before.before.before.before.before.before.before.before.before.before.before.before.before.before.before.before in let c40 = c24.before.before.before.before.before.before.before.before.before.before.before.before.before.before.before.before in (c8.joined.ensures.carries.same_length) ∙ (c24.literal2.ensures.carries.same_length) ∙ (c40.literal.ensures.carries.same_length)
+same-length-12 c = let c8 = c.before.before.before.before.before.before.before.before in let c24 = c8.before.before.before.before.before.before.before.before.before.before.before.before.before.before.before.before in let c40 = c24.before.before.before.before.before.before.before.before.before.before.before.before.before.before.before.before in (c8.joined.ensures.behind.same_length) ∙ (c24.literal2.ensures.behind.same_length) ∙ (c40.literal.ensures.behind.same_length)
 
 returns-3 : tie.Need-returns-3
 returns-3 c = let c8 = c.before.before.before.before.before.before.before.before in let c14 = c8.before.before.before.before.before.before in let c24 = c14.before.before.before.before.before.before.before.before.before.before in let c30 = c24.before.before.before.before.before.before in let c40 = c30.before.before.before.before.before.before.before.before.before.before in let c49 = c40.before.before.before.before.before.before.before.before.before in gate_done _ _ _ _ _ _ (c49.requires) _ _ _ _ (kept_is (c30.f.given.1) (c40.literal.ensures)) _ _ _ _ (kept_is (c14.g.given.1) (c24.literal2.ensures)) (c8.joined.ensures)

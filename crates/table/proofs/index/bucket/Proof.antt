@@ -1,17 +1,10 @@
-use native.Mathlib.Omega.{arith}
-use native.Mathlib.Nat.{mod-lt}
-use Rattle.table.specs.Index.{bucket, index_size}
-use Rattle.table.proofs.Buckets.{index_most, part_fits}
-use mathlib.Core.Path.{refl}
+use Rattle.table.specs.Index.{bucket}
+use borrow.Author.Tests.{eq-eqb, ne_eqb}
 use borrow.Author.Rules.{rules}
 use Rattle.table.proofs.index.bucket.Statement.{statement}
 use Rattle.table.proofs.index.bucket.Tie as tie
 use Rattle.table.proofs.index.bucket.Reads as reads
 use Rattle.table.proofs.index.bucket.Lts as lts
-use Rattle.table.proofs.index.index_size.Reads as index-size-reads
-
-index-size-requires : tie.Need-index-size-requires
-index-size-requires c κs = search rules
 
 cast-hash : tie.Need-overflow-cast-hash
 cast-hash c = search rules
@@ -37,18 +30,22 @@ mul-hash-3 c = search rules
 add-hash-2 : tie.Need-overflow-add-hash-2
 add-hash-2 c = search rules
 
-mul-result : tie.Need-overflow-mul-result
-mul-result c = let c3 = c.before.before.before in let c4 = c3.before in record { fits = part_fits _ _ (mod-lt _ (omega arith)) (omega (arith, index_most (c4.args.rows), c3.index_size.ensures)) }
-
 returns : tie.Need-returns
 unfolding bucket
-returns c = let c3 = c.before.before.before in record { is = rw (c3.index_size.ensures) refl }
+returns c = simp (eq-eqb _ _ c.if1.true)
+
+returns-2 : tie.Need-returns-2
+unfolding bucket
+returns-2 c = simp (ne_eqb _ _ c.before.if1.false, eq-eqb _ _ c.if2.true)
+
+returns-3 : tie.Need-returns-3
+unfolding bucket
+returns-3 c = simp (ne_eqb _ _ c.before.if1.false, ne_eqb _ _ c.if2.false)
 
 pub bucket-spec : {M : Type 1} → statement M
 bucket-spec =
     tie.close
     (tie.spec
-    index-size-requires
     cast-hash
     mul-hash
     cast-hash-2
@@ -57,5 +54,6 @@ bucket-spec =
     cast-hash-3
     mul-hash-3
     add-hash-2
-    mul-result
-    returns)
+    returns
+    returns-2
+    returns-3)

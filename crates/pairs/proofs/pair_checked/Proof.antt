@@ -1,0 +1,96 @@
+use Rattle.pairs.specs.Calls.{op_of}
+use Rattle.pairs.proofs.PairCalls.{pair_range, pair_unsound, pair_fine}
+use Rattle.checks.proofs.Endings.{fine_live}
+use Rattle.checks.proofs.CallEnds.{fine_vars}
+use borrow.Author.Rules.{rules}
+use Rattle.pairs.proofs.pair_checked.Statement.{statement}
+use Rattle.pairs.proofs.pair_checked.Tie as tie
+use Rattle.pairs.proofs.pair_checked.Reads as reads
+use Rattle.pairs.proofs.pair_checked.Lts as lts
+use Rattle.checks.proofs.check.check.Reads as check-reads
+use Rattle.pairs.proofs.pair_ready.Reads as pair-ready-reads
+
+check-requires : tie.Need-check-requires
+check-requires c κs = search rules
+
+enum_told : tie.Need-enum-told
+enum_told c = search rules
+
+enum-told-2 : tie.Need-enum-told-2
+enum-told-2 c = search rules
+
+enum-told-3 : tie.Need-enum-told-3
+enum-told-3 c = search rules
+
+pair-ready-requires : tie.Need-pair-ready-requires
+pair-ready-requires c κs = let c4 = c.before.before.before.before in let c8 = c4.before.before.before.before in (fine_live (c8.check.ensures) c4.enum-told3.given.1, fine_vars (c8.check.ensures) c4.enum-told3.given.1)
+
+same_length : tie.Need-same-length
+same_length c = search rules
+
+same-length-2 : tie.Need-same-length-2
+same-length-2 c = search rules
+
+same-length-3 : tie.Need-same-length-3
+same-length-3 c = search rules
+
+same-length-4 : tie.Need-same-length-4
+same-length-4 c = search rules
+
+returns : tie.Need-returns
+returns c = let c4 = c.before.before.before.before in let c13 = c4.before.before.before.before.before.before.before.before.before in pair_range (op_of (c13.args.op)) _ _ _ _ _ _ (c4.check.ensures) c.enum_told.given.1
+
+same-length-5 : tie.Need-same-length-5
+same-length-5 c = search rules
+
+same-length-6 : tie.Need-same-length-6
+same-length-6 c = search rules
+
+same-length-7 : tie.Need-same-length-7
+same-length-7 c = search rules
+
+same-length-8 : tie.Need-same-length-8
+same-length-8 c = search rules
+
+returns-2 : tie.Need-returns-2
+returns-2 c = let c4 = c.before.before.before.before in let c13 = c4.before.before.before.before.before.before.before.before.before in pair_unsound (op_of (c13.args.op)) _ _ _ _ _ _ (c4.check.ensures) c.enum-told2.given.1
+
+same-length-9 : tie.Need-same-length-9
+same-length-9 c = search rules
+
+same-length-10 : tie.Need-same-length-10
+same-length-10 c = search rules
+
+same-length-11 : tie.Need-same-length-11
+same-length-11 c = search rules
+
+same-length-12 : tie.Need-same-length-12
+same-length-12 c = search rules
+
+returns-3 : tie.Need-returns-3
+returns-3 c = let c8 = c.before.before.before.before.before.before.before.before in let c13 = c8.before.before.before.before.before in let c17 = c13.before.before.before.before in let c26 = c17.before.before.before.before.before.before.before.before.before in pair_fine (op_of (c26.args.op)) _ _ _ _ _ _ (c17.check.ensures) c13.enum-told3.given.1 (c8.pair-ready.ensures)
+
+pub pair-checked-spec : {M : Type 1} → statement M
+pair-checked-spec =
+    tie.close
+    (tie.spec
+    check-requires
+    enum_told
+    enum-told-2
+    enum-told-3
+    pair-ready-requires
+    same_length
+    same-length-2
+    same-length-3
+    same-length-4
+    returns
+    same-length-5
+    same-length-6
+    same-length-7
+    same-length-8
+    returns-2
+    same-length-9
+    same-length-10
+    same-length-11
+    same-length-12
+    returns-3)
