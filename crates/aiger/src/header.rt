@@ -8,7 +8,7 @@ use crate::lines::{further, newline_left};
 use crate::numbers::{Fault, Read, Step, byte, read_fault, step_fault};
 
 // M, I, L, O and A.
-#[derive(Drop)]
+#[derive(Clone, Copy)]
 pub struct Sizes {
     pub vars: u16,
     pub inputs: u16,
@@ -18,7 +18,7 @@ pub struct Sizes {
 }
 
 // The header's numbers with the next position, or the line's fault.
-#[derive(Drop)]
+#[derive(Clone, Copy)]
 pub enum HeaderRead {
     Found(Sizes, usize),
     Malformed(Fault),

@@ -1,5 +1,7 @@
 // Combinational ASCII AIGER by the scope, 'AIGER text': what a text means, and the reading of its lines. Nothing here knows of tables. The text call
 // stands in the crate nets; the modules here are for the crates above.
+#![tactic(auto)]
+
 pub mod header;
 pub mod lines;
 pub mod net;
@@ -7,7 +9,7 @@ pub mod numbers;
 mod reader;
 
 // I and O, or the refusal's number.
-#[derive(Drop)]
+#[derive(Clone, Copy)]
 pub enum Answer {
     Counted(u16, u16),
     Refused(u16),

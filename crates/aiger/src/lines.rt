@@ -7,10 +7,10 @@ use crate::numbers::{Fault, Read, Step, byte, read_fault, space, step_fault};
 use crate::reader::number_at;
 
 // A circuit's literal: 2v is variable v, 2v+1 its inverse; 0 and 1 are constants.
-#[derive(Drop)]
+#[derive(Clone, Copy)]
 pub struct Lit(pub u16);
 
-#[derive(Drop)]
+#[derive(Clone, Copy)]
 pub struct Gate {
     pub left: Lit,
     pub right0: Lit,
@@ -18,7 +18,7 @@ pub struct Gate {
 }
 
 // A gate with the next position, or the line's fault.
-#[derive(Drop)]
+#[derive(Clone, Copy)]
 pub enum GateRead {
     Lits(Gate, usize),
     Broken(Fault),

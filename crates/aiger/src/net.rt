@@ -3,7 +3,7 @@ use crate::header::Sizes;
 use crate::numbers::Fault;
 
 // Why a text is refused, and at which line.
-#[derive(Drop)]
+#[derive(Clone, Copy)]
 pub enum Refusal {
     TooLong,
     Form(Fault, usize),
@@ -13,14 +13,14 @@ pub enum Refusal {
 }
 
 // The position behind the lines, or the refusal.
-#[derive(Drop)]
+#[derive(Clone, Copy)]
 pub enum Lines {
     Done(usize),
     Stopped(Refusal),
 }
 
 // The header's numbers with the position behind the last gate line, or the refusal.
-#[derive(Drop)]
+#[derive(Clone, Copy)]
 pub enum NetRead {
     Whole(Sizes, usize),
     Unread(Refusal),

@@ -4,7 +4,7 @@ ghost use Rattle.aiger.specs.Form as form;
 ghost use Rattle.aiger.specs.Answers.{step_of, number_of, stop_of, fault_of};
 
 // Which of the scope's (a), (b), (c) a line breaks.
-#[derive(Drop)]
+#[derive(Clone, Copy)]
 pub enum Fault {
     NoNewline,
     BadNumber,
@@ -12,14 +12,14 @@ pub enum Fault {
 }
 
 // The next position, or the line's fault.
-#[derive(Drop)]
+#[derive(Clone, Copy)]
 pub enum Step {
     Next(usize),
     Stop(Fault),
 }
 
 // A number with the next position, or the line's fault.
-#[derive(Drop)]
+#[derive(Clone, Copy)]
 pub enum Read {
     Number(u16, usize),
     Bad(Fault),

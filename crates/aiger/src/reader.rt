@@ -5,7 +5,7 @@ ghost use Rattle.aiger.specs.Answers.{number_of};
 
 use crate::numbers::{Read, number};
 
-#[derive(Drop)]
+#[derive(Clone, Copy)]
 pub struct Reader<'a> {
     pub text: &'a [u8],
     pub at: usize,

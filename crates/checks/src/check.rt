@@ -14,7 +14,7 @@ use table::rows::{Node, node_at, row_of};
 use zeros::zero_words;
 
 // What the checks find.
-#[derive(Drop)]
+#[derive(Clone, Copy)]
 pub enum Table {
     Fine,
     OutOfRange,

@@ -1,4 +1,6 @@
 // The circuit call: a text becomes a net, the net's gates a system in the lent table, and one output is judged by it.
+#![tactic(auto)]
+
 mod output;
 
 ghost use Rattle.std.specs.Prelude.{◌≡◌, length, replicate};

@@ -1,4 +1,6 @@
 // For the crates above: what the circuit call answers, and how it ends after what was made.
+#![tactic(auto)]
+
 pub mod pattern;
 
 ghost use Rattle.std.specs.Prelude.{length, take};
@@ -11,7 +13,7 @@ use checks::finish::free_rows;
 use table::make::Made;
 
 // What the circuit call answers: verdict 0 (the output is never 1) or 1 (it can be), with the count of rows made; verdict 2, room ran out; or a refusal's number.
-#[derive(Drop)]
+#[derive(Clone, Copy)]
 pub enum Judged {
     Never(usize),
     Can(usize),

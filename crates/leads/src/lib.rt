@@ -1,5 +1,7 @@
 // For the crate above only, the written steps of the normal form: what is left of a system once the leads below a variable are skipped. The working slice has a table of it
 // where it is long enough, in the n words behind the remembered results; else the leads are walked through.
+#![tactic(auto)]
+
 ghost use Rattle.std.specs.Prelude.{◌<◌};
 ghost use Rattle.steps.specs.Table.{slices, rows_of};
 ghost use Rattle.table.specs.Lent.{Numbered};

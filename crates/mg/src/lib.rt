@@ -1,4 +1,6 @@
 // The calls as C sees them, declared in include/mg.h: each makes the public call of its name and shows the answer. The promise is the public call's own.
+#![tactic(auto)]
+
 ghost use Rattle.std.specs.Prelude.{◌≡◌, ◌&&◌, length, replicate};
 ghost use Rattle.std.specs.Bool.{xor};
 ghost use Rattle.steps.specs.Table.{slices};

@@ -1,4 +1,6 @@
 // The program: reads an AIGER text from standard input and prints a verdict for every output, in a table of 4,096 rows. The system is built once.
+#![tactic(auto)]
+
 ghost use Rattle.std.specs.Prelude.{length};
 ghost use Rattle.steps.specs.Table.{slices};
 ghost use Rattle.aiger.specs.Answers as net;

@@ -1,4 +1,6 @@
 // A text becomes a net, or is refused, by the scope, 'AIGER text'; the text call.
+#![tactic(auto)]
+
 mod body;
 pub mod for_circuit;
 

@@ -1,4 +1,6 @@
 // The public calls on a table that need no arithmetic: the variable x_v, the value of a number at an assignment, and a one of it.
+#![tactic(auto)]
+
 ghost use Rattle.std.specs.Prelude.{◌≡◌, length, replicate};
 ghost use Rattle.steps.specs.Table.{slices};
 ghost use Rattle.table.specs.Memory.{Live};
@@ -16,14 +18,14 @@ use table::{Answer, Row, Var};
 use zeros::zero_work;
 
 // What the call value answers.
-#[derive(Drop)]
+#[derive(Clone, Copy)]
 pub enum Valued {
     Value(bool),
     NoValue(u16),
 }
 
 // What finding a one answers.
-#[derive(Drop)]
+#[derive(Clone, Copy)]
 pub enum Sought {
     One,
     NoOne(u16),

@@ -1,5 +1,7 @@
 // For the program: every output of a circuit is judged from one system, which is built once. Nothing here is a call of the scope; each verdict is the circuit
 // call's, from an empty table of the same size.
+#![tactic(auto)]
+
 ghost use Rattle.std.specs.Prelude.{length, take};
 ghost use Rattle.steps.specs.Table.{slices};
 ghost use Rattle.table.specs.Memory.{Live};

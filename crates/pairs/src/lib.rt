@@ -1,4 +1,6 @@
 // The calls sum and product. They differ in the written steps that are taken, and in nothing else.
+#![tactic(auto)]
+
 ghost use Rattle.std.specs.Prelude.{◌≡◌, ◌&&◌, ◌≤◌, length, replicate};
 ghost use Rattle.std.specs.Bool.{xor};
 ghost use Rattle.steps.specs.Table.{slices};
@@ -14,7 +16,7 @@ use table::{Answer, Row};
 use zeros::zero_work;
 
 // Which of the two calls is made.
-#[derive(Drop)]
+#[derive(Clone, Copy)]
 enum Operation {
     Sum,
     Product,

@@ -1,4 +1,6 @@
 // For the program: what it prints of an output or a refusal, laid down in a lent line. Nothing here is a call of the scope.
+#![tactic(auto)]
+
 mod line;
 
 ghost use Rattle.std.specs.Prelude.{◌≤◌, length};

@@ -1,4 +1,6 @@
 // For the crates above: the written steps of the normal form, with its results remembered.
+#![tactic(auto)]
+
 ghost use Rattle.steps.specs.Steps.{normal};
 ghost use Rattle.steps.specs.Table.{slices, rows_of};
 ghost use Rattle.table.specs.Inner.{Kept};

@@ -1,4 +1,6 @@
 // For the calls from C: what C sees of an answer, 0 with the out-parameters written, or the refusal's number with the out-parameters as they were.
+#![tactic(auto)]
+
 ghost use Rattle.std.specs.Prelude.{◌≡◌};
 ghost use Rattle.shown.specs.Seen.{seen, show_made, show_value, show_one, show_verdict, show_counts};
 

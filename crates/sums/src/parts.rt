@@ -6,7 +6,7 @@ use table::rows::row_of;
 use table::{Row, Var};
 
 // The lesser root, and the parts of f and g there: of one that has another root the then_part is 0 and the else_part is itself.
-#[derive(Drop)]
+#[derive(Clone, Copy)]
 pub struct Parts {
     pub v: Var,
     pub ft: Row,

@@ -10,7 +10,7 @@ use crate::Row;
 use crate::rows::{Node, is_row};
 
 // What a search finds: a row's number.
-#[derive(Drop)]
+#[derive(Clone, Copy)]
 pub enum Found {
     At(Row),
     Nothing,

@@ -12,7 +12,7 @@ use crate::index::{Found, bucket, enter, find, index_words};
 use crate::rows::Node;
 
 // What steps make: a number, with the new count of rows in use; or room has run out.
-#[derive(Drop)]
+#[derive(Clone, Copy)]
 pub enum Made {
     At(Row, usize),
     Full,

@@ -13,7 +13,7 @@ pub const PRODUCT: u64 = 2;
 pub const NORMAL_FORM: u64 = 3;
 
 // What the memory has under a key.
-#[derive(Drop)]
+#[derive(Clone, Copy)]
 pub enum Recalled {
     At(Row),
     Nothing,

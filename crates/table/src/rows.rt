@@ -7,7 +7,7 @@ ghost use Rattle.table.specs.Lent.{Stands, Numbered};
 use crate::{Row, Var};
 
 // The row (v, t, e).
-#[derive(Drop)]
+#[derive(Clone, Copy)]
 pub struct Node {
     pub v: Var,
     pub t: Row,

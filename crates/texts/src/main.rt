@@ -1,9 +1,11 @@
 // Prints what the text call answers to each text of standard input, a line for each: `I O`, or `refused` and the number.
 // Frame: a line with the text's length in bytes, then that many bytes. The end of the input ends the texts.
+#![tactic(auto)]
+
 use aiger::Answer;
 use libc::{STDIN_FILENO, STDOUT_FILENO};
 
-#[derive(Drop)]
+#[derive(Clone, Copy)]
 enum Frame {
     Text(usize),
     End,

@@ -1,4 +1,6 @@
 // For the crates above: zeros, written into a slice.
+#![tactic(auto)]
+
 ghost use Rattle.std.specs.Prelude.{◌≡◌, ◌++◌, ◌≤◌, length, replicate, drop};
 
 // Zeros the first words of the working slice.
