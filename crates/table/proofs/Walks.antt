@@ -16,12 +16,12 @@ use Rattle.table.specs.Index.{index_words, bucket, newest_in, Followed, Chains, 
 use Rattle.table.proofs.Buckets.{Spans, spans, spans_fits, spans_room, spans_bucket, Newest, nowhere, at, newest, newest_below}
 
 -- parts of what is apart and of what is followed
-apart_part : {R S : Rows} {r : Row} → (S ▹ r) ≼ R → Apart R → find S r ≡ 0
+apart_part : {S : Rows} {r : Row} {R : Rows} → (S ▹ r) ≼ R → Apart R → find S r ≡ 0
 unfolding Apart
 apart_part stop a = a.1
 apart_part (more q) a = apart_part q a.0
 
-followed_part : (H : ℕ) (work : List ℕ) {R S : Rows} {r : Row} → (S ▹ r) ≼ R → Followed H R work → get_or work (count S) 0 % 65536 ≡ newest_in H (bucket H r) S
+followed_part : (H : ℕ) (work : List ℕ) {S : Rows} {r : Row} {R : Rows} → (S ▹ r) ≼ R → Followed H R work → get_or work (count S) 0 % 65536 ≡ newest_in H (bucket H r) S
 unfolding Followed
 followed_part H work stop f = f.1
 followed_part H work (more q) f = followed_part H work q f.0

@@ -1,0 +1,10 @@
+use Prim.Native.Nat.{◌-◌}
+use lib.ListN.{length}
+use Rattle.zeros.proofs.Zeros.{Filled}
+use Rattle.zeros.proofs.zero_numbers.Given as goal
+
+abbrev pub invariant-loop-i : goal.invariant-loop-i
+invariant-loop-i l = Filled l.initial.rows l.i l.rows
+
+abbrev pub decreases-loop-i : goal.decreases-loop-i
+decreases-loop-i l = length l.rows - l.i
