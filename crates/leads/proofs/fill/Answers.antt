@@ -1,0 +1,28 @@
+use Rattle.std.proofs.Common.{◌+◌, ◌*◌, ◌<◌, ◌≤◌, ◌≡◌, length, refl, ap, sym, ◌∙◌}
+use native.Mathlib.Omega.{arith}
+use Prim.Native.Nat.{◌-◌}
+use borrow.Author.Rules.{rules}
+use Rattle.steps.specs.Table.{slices}
+use Rattle.leads.proofs.Filling.{from_fits, table_fits, no_table, Filling, fill_none, fill_starts, fill_ends, fill_asks, fill_there, fill_goes_on}
+use Rattle.leads.proofs.fill.Goals as goal
+
+pub overflow_sub-work : goal.overflow_sub-work
+overflow_sub-work c = from_fits _ _ _ c.words_used-from.ensures
+
+pub returns-then-work-from : goal.returns-then-work-from
+returns-then-work-from c = fill_none _ _ _ _ _ c.requires.0 c.requires.1 (no_table _ _ _ c.words_used-from.ensures _ c.if-work-from.true)
+
+pub loop-v-init : goal.loop-v-init
+loop-v-init c = fill_starts _ _ _ _ _ c.requires.0 c.requires.1
+
+pub bounds-work-from : goal.bounds-work-from
+bounds-work-from c = fill_there _ _ _ _ _ c.requires.0 c.requires.1 _ _ _ c.loop-v.invariant _ c.words_used-from.ensures (table_fits _ _ _ c.words_used-from.ensures _ c.if-work-from.false) c.loop-v-test.true
+
+pub past-g-requires : goal.past-g-requires
+past-g-requires c = fill_asks _ _ _ _ _ c.requires.0 c.requires.1 _ _ _ c.loop-v.invariant
+
+pub loop-v-preserved : goal.loop-v-preserved
+loop-v-preserved c = fill_goes_on _ _ _ _ _ c.requires.0 c.requires.1 _ _ _ c.loop-v.invariant _ c.words_used-from.ensures (table_fits _ _ _ c.words_used-from.ensures _ c.if-work-from.false) c.loop-v-test.true _ c.past-g.ensures
+
+pub returns : goal.returns
+returns c = fill_ends _ _ _ _ _ c.requires.0 c.requires.1 _ _ _ c.loop-v.invariant (omega (arith, c.loop-v-test.false))
