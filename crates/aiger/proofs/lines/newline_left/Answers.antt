@@ -1,0 +1,18 @@
+use Rattle.std.proofs.Common.{◌+◌, ◌*◌, ◌<◌, ◌≤◌, ap}
+use Prim.Native.Nat.{◌-◌}
+use mathlib.Core.Path.{◌≡◌, refl, sym, ◌∙◌}
+use native.Mathlib.Omega.{arith}
+use borrow.Author.Tests.{eq-eqb, ne_eqb}
+use lib.ListN.{length, drop}
+use Rattle.aiger.specs.Form as form
+use Rattle.aiger.proofs.AtPosition.{newline_end, newline_here, newline_on}
+use Rattle.aiger.proofs.lines.newline_left.Goals as goal
+
+pub returns-then-s-at-eq10 : goal.returns-then-s-at-eq10
+returns-then-s-at-eq10 c = sym (c.loop-at.invariant ∙ newline_here _ _ c.loop-at-test.true (eq-eqb _ _ c.if-s-at-eq10.true))
+
+pub loop-at-preserved : goal.loop-at-preserved
+loop-at-preserved c = c.loop-at.invariant ∙ newline_on _ _ c.loop-at-test.true (ne_eqb _ _ c.if-s-at-eq10.false)
+
+pub returns : goal.returns
+returns c = sym (c.loop-at.invariant ∙ newline_end _ _ c.loop-at-test.false)
