@@ -1,0 +1,11 @@
+use Rattle.std.proofs.Common.{◌-◌, ◌<◌, ◌≤◌, ◌≡◌, length, refl, ap, sym, ◌∙◌, arith}
+use Prim.Native.Nat.{◌+◌, ◌*◌}
+use borrow.Author.Tests.{le-leb, lt-leb}
+use borrow.Author.Rules.{rules}
+use Rattle.nets.proofs.body.known.Goals as goal
+
+pub returns-then-m-l : goal.returns-then-m-l
+returns-then-m-l c = λ ls m. rw (lt-leb c.args.l.0 (2 * c.args.m + 1) c.if-m-l.true)
+
+pub returns : goal.returns
+returns c = λ ls m. rw (le-leb c.args.l.0 (2 * c.args.m + 1) c.if-m-l.false) (c.is_defined.ensures ls m)

@@ -1,0 +1,32 @@
+use Rattle.std.proofs.Common.{◌≤◌, ◌≡◌, length, refl, ap, sym, arith}
+use borrow.Author.Rules.{rules}
+use mathlib.Core.Path.{◌∙◌}
+use Rattle.steps.specs.Table.{slices, rows_of}
+use Rattle.sums.specs.Inner.{depth}
+use Rattle.sums.proofs.Keeping.{kept_is, kept_nothing}
+use Rattle.reduction.proofs.Deep.{form_const, form_asks, form_below, form_empty, form_deep, form_full, form_key, form_recalled, form_remembered, deep_asks, deep_asks_2, below_asks, below_done, meet_asks, meet_done, then_asks, then_full, else_asks, else_full, make_asks, below_made, rest_asks, rest_full, rest_joins, rest_done, a_asks, a_full, b_asks, b_full, rest_follows, meet_made}
+use Prim.Native.Nat.{ℕ, ◌<◌, ◌*◌, ◌+◌, ◌-◌}
+use borrow.Fn.Kinds.{In}
+use borrow.Fn.PlainCycle.{Measures, is, falls, and}
+use Rattle.reduction.proofs.meet_rest.Kinds as meet-rest-kinds
+use Rattle.reduction.proofs.normal_below.Kinds as normal-below-kinds
+use Rattle.reduction.proofs.normal_deep.Kinds as normal-deep-kinds
+use Rattle.reduction.proofs.normal_form.Kinds as normal-form-kinds
+use Rattle.reduction.proofs.normal_meet.Kinds as normal-meet-kinds
+use Rattle.reduction.proofs.+meet_rest_normal_below_normal_deep_normal_form_normal_meet.{
+use Rattle.reduction.proofs.+meet_rest_normal_below_normal_deep_normal_form_normal_meet.Given as goal
+
+abbrev pub decreases-meet_rest : goal.decreases-meet_rest
+decreases-meet_rest l = 4 * (l.n - l.x.v.0)
+
+abbrev pub decreases-normal_below : goal.decreases-normal_below
+decreases-normal_below l = 4 * (l.n - l.x.v.0) + 1
+
+abbrev pub decreases-normal_deep : goal.decreases-normal_deep
+decreases-normal_deep l = 4 * depth l.n (rows_of (slices l.vs.now l.ts.now l.es.now) l.count) l.p.0 l.f.0 + 2
+
+abbrev pub decreases-normal_form : goal.decreases-normal_form
+decreases-normal_form l = 4 * depth l.n (rows_of (slices l.vs.now l.ts.now l.es.now) l.count) l.p.0 l.f.0 + 3
+
+abbrev pub decreases-normal_meet : goal.decreases-normal_meet
+decreases-normal_meet l = 4 * (l.n - l.x.v.0) + 1
