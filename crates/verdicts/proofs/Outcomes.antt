@@ -93,19 +93,32 @@ unfolding column count
 column_length f none = refl
 column_length f (R ▹ r) = omega (arith, length-append (column f R) (f r ∷ []), column_length f R)
 
+-- one row more, read off columns that begin with those of the rows before it
+front_row : (R : Rows) (r : Row) (xs ys zs : List ℕ)
+    → rows_of (slices (column (λ r. r.var) R ++ (r.var ∷ xs)) (column (λ r. r.then_part) R ++ (r.then_part ∷ ys)) (column (λ r. r.else_part) R ++ (r.else_part ∷ zs))) (count R) ≡ R
+    → rows_of (slices (column (λ r. r.var) R ++ (r.var ∷ xs)) (column (λ r. r.then_part) R ++ (r.then_part ∷ ys)) (column (λ r. r.else_part) R ++ (r.else_part ∷ zs))) (suc (count R)) ≡ R ▹ r
+unfolding rows_of
+front_row R r xs ys zs h =
+    rw (
+      get_or_at (column (λ r. r.var) R) r.var xs 0 (count R) (column_length (λ r. r.var) R),
+      get_or_at (column (λ r. r.then_part) R) r.then_part ys 0 (count R) (column_length (λ r. r.then_part) R),
+      get_or_at (column (λ r. r.else_part) R) r.else_part zs 0 (count R) (column_length (λ r. r.else_part) R),
+      h,
+    )
+
+slices_by : {xs xs' ys ys' zs zs' : List ℕ} → xs ≡ xs' → ys ≡ ys' → zs ≡ zs' → slices xs ys zs ≡ slices xs' ys' zs'
+slices_by p q r = rw (p, q, r)
+
 front_rows : (R : Rows) (xs ys zs : List ℕ) → rows_of (slices (column (λ r. r.var) R ++ xs) (column (λ r. r.then_part) R ++ ys) (column (λ r. r.else_part) R ++ zs)) (count R) ≡ R
 unfolding column count rows_of
 front_rows none xs ys zs = refl
 front_rows (R ▹ r) xs ys zs =
-    rw (
-      append_snoc (column (λ r. r.var) R) r.var xs,
-      append_snoc (column (λ r. r.then_part) R) r.then_part ys,
-      append_snoc (column (λ r. r.else_part) R) r.else_part zs,
-      get_or_at (column (λ r. r.var) R) r.var xs 0 (count R) (column_length (λ r. r.var) R),
-      get_or_at (column (λ r. r.then_part) R) r.then_part ys 0 (count R) (column_length (λ r. r.then_part) R),
-      get_or_at (column (λ r. r.else_part) R) r.else_part zs 0 (count R) (column_length (λ r. r.else_part) R),
-      front_rows R (r.var ∷ xs) (r.then_part ∷ ys) (r.else_part ∷ zs),
-    )
+    ap (λ (s : Slices). rows_of s (suc (count R)))
+      (slices_by
+        (append_snoc (column (λ r. r.var) R) r.var xs)
+        (append_snoc (column (λ r. r.then_part) R) r.then_part ys)
+        (append_snoc (column (λ r. r.else_part) R) r.else_part zs))
+    ∙ front_row R r xs ys zs (front_rows R (r.var ∷ xs) (r.then_part ∷ ys) (r.else_part ∷ zs))
 
 pub laid_rows : (R : Rows) (s : Slices) → rows_of (laid R s) (count R) ≡ R
 laid_rows R s = front_rows R (drop (count R) s.vars) (drop (count R) s.thens) (drop (count R) s.elses)

@@ -1,14 +1,10 @@
 use Prim.Native.Nat.{ℕ, ◌-◌, ◌/◌, ◌<◌}
 use native.Mathlib.Omega.{arith}
 use borrow.Author.Rules.{rules}
-use borrow.Fn.Kinds.{In}
-use borrow.Fn.PlainCycle.{Measures, is, falls, and}
 use Rattle.printing.proofs.line.put_decimal.Reads as put-decimal
-use Rattle.printing.proofs.line.put_decimal.Kinds as put-decimal-kinds
 use Rattle.printing.proofs.line.+put_decimal.Lts-put_decimal as put-decimal-lts
 use Rattle.printing.proofs.line.put.Reads as put_reads
 use Rattle.printing.proofs.Puts.{put_then, put_as, decimal_one, decimal_short, decimal_long, decimal_fits}
-use Rattle.printing.proofs.line.+put_decimal.{statement}
 use Rattle.printing.proofs.line.+put_decimal.Tie.{close}
 
 abbrev μ-put-decimal : Measures 1 put-decimal-kinds.ps ℕ

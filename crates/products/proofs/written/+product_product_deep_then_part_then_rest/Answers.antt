@@ -10,13 +10,6 @@ use Rattle.products.proofs.Parts.{product_left_1, product_left_0, product_right_
 use Rattle.products.proofs.Remembering.{key_small, recalled, kept_remembered}
 use Rattle.products.proofs.Deep.{rest_asks, rest_full, rest_asks_2, rest_full_2, rest_asks_3, rest_done, then_asks, then_asks_second, then_full, then_asks_2, then_done, deep_asks, deep_full, deep_asks_2, deep_full_2, make_asks, product_made}
 use Prim.Native.Nat.{ℕ, ◌<◌, ◌*◌, ◌+◌}
-use borrow.Fn.Kinds.{In}
-use borrow.Fn.PlainCycle.{Measures, is, falls, and}
-use Rattle.products.proofs.written.product.Kinds as product-kinds
-use Rattle.products.proofs.written.product_deep.Kinds as product-deep-kinds
-use Rattle.products.proofs.written.then_part.Kinds as then-part-kinds
-use Rattle.products.proofs.written.then_rest.Kinds as then-rest-kinds
-use Rattle.products.proofs.written.+product_product_deep_then_part_then_rest.{statement}
 use Rattle.products.proofs.written.+product_product_deep_then_part_then_rest.Goals as goal
 
 pub product-returns-then-f-eq1 : goal.product-returns-then-f-eq1

@@ -8,11 +8,6 @@ use Rattle.sums.proofs.Keeping.{kept_is, kept_nothing}
 use Rattle.sums.proofs.Remembering.{sum_left, sum_right_0, sum_same, pair_key, recalled, kept_remembered}
 use Rattle.sums.proofs.Deep.{first_asks, first_full, second_asks, second_full, make_asks, sum_made}
 use Prim.Native.Nat.{ℕ, ◌<◌, ◌*◌, ◌+◌}
-use borrow.Fn.Kinds.{In}
-use borrow.Fn.PlainCycle.{Measures, is, falls, and}
-use Rattle.sums.proofs.written.sum.Kinds as sum-kinds
-use Rattle.sums.proofs.written.sum_deep.Kinds as sum-deep-kinds
-use Rattle.sums.proofs.written.+sum_sum_deep.{statement}
 use Rattle.sums.proofs.written.+sum_sum_deep.Given as goal
 
 abbrev pub decreases-sum : goal.decreases-sum
