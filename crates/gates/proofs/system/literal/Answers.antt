@@ -1,0 +1,10 @@
+use Rattle.std.proofs.Common.{◌+◌, ◌-◌, ◌*◌, ◌<◌, ◌≤◌, ◌≡◌, length, refl, ap, sym, ◌∙◌, arith}
+use Rattle.gates.proofs.Joining.{literal_constant, literal_made}
+use borrow.Author.Rules.{rules}
+use Rattle.gates.proofs.system.literal.Goals as goal
+
+pub returns-then-l-lt2 : goal.returns-then-l-lt2
+returns-then-l-lt2 c = literal_constant _ _ _ _ _ (c.requires.live) (c.if-l-lt2.true)
+
+pub returns : goal.returns
+returns c = literal_made _ _ _ _ _ (c.requires) (c.if-l-lt2.false) (c.make.ensures)
