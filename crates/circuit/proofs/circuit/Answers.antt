@@ -1,0 +1,7 @@
+use Rattle.std.proofs.Common.{◌+◌, ◌-◌, ◌*◌, ◌<◌, ◌≤◌, ◌≡◌, length, refl, ap, sym, ◌∙◌, arith}
+use Rattle.checks.proofs.Endings.{zeros_left}
+use borrow.Author.Rules.{rules}
+use Rattle.circuit.proofs.circuit.Goals as goal
+
+pub returns : goal.returns
+returns c = record { answered = c.circuit_read-r.ensures; work_after = zeros_left (c.args.work.now) (c.circuit_read-r.new.work) (c.circuit_read-r.auto.work) (c.zero_work.ensures) }

@@ -1,0 +1,14 @@
+use Rattle.std.proofs.Common.{◌+◌, ◌*◌, ◌<◌, ◌≡◌, refl, ap, sym, ◌∙◌}
+use Prim.Native.Nat.{◌-◌, ◌≤◌}
+use borrow.Author.Rules.{rules}
+use lib.ListN.{length, take}
+use native.Mathlib.Omega.{arith}
+use Rattle.printing.specs.Inner.{Put}
+use Rattle.printing.proofs.Puts.{put_nothing, bytes_next, bytes_end, bytes_all}
+use Rattle.printing.proofs.line.put_all.Given as goal
+
+abbrev pub invariant-loop-i : goal.invariant-loop-i
+invariant-loop-i l = (Put l.initial.line l.line l.at (take l.i l.bytes) l.end) × (l.i ≤ length l.bytes)
+
+abbrev pub decreases-loop-i : goal.decreases-loop-i
+decreases-loop-i l = length l.bytes - l.i

@@ -1,0 +1,22 @@
+use Rattle.std.proofs.Common.{◌+◌, ◌*◌, ◌<◌, ◌≡◌, refl, ap, sym, ◌∙◌}
+use Prim.Native.Nat.{◌-◌, ◌≤◌}
+use mathlib.Core.List.{map}
+use borrow.Author.Rules.{rules}
+use lib.ListN.{length, take}
+use native.Mathlib.Omega.{arith}
+use Rattle.printing.specs.Text.{digit}
+use Rattle.printing.specs.Inner.{Put}
+use Rattle.printing.proofs.Puts.{put_nothing, digits_next, digits_ends, digits_all}
+use Rattle.printing.proofs.line.put_digits.Goals as goal
+
+pub loop-i-init : goal.loop-i-init
+loop-i-init c = (put_nothing _ _ (omega (arith, c.requires)), omega arith)
+
+pub put-end-requires : goal.put-end-requires
+put-end-requires c = omega (arith, c.requires, digits_ends _ c.loop-i.i c.loop-i.invariant.0 c.loop-i.invariant.1, c.loop-i.invariant.0.same_length, c.loop-i-test.true)
+
+pub loop-i-preserved : goal.loop-i-preserved
+loop-i-preserved c = (digits_next _ c.loop-i.i c.loop-i.invariant.0 c.digit.ensures c.put-end.ensures c.loop-i-test.true, omega (arith, c.loop-i-test.true))
+
+pub returns : goal.returns
+returns c = digits_all _ c.loop-i.i c.loop-i.invariant.0 c.loop-i-test.false
