@@ -10,7 +10,8 @@ use lib.Dec.{eqb, leb, ltb}
 use lib.ListN.{length, get_or, length-append}
 use lib.Seq.{append_snoc}
 use borrow.Author.Tests.{eqb-true, leb-true, ltb-true}
-use Rattle.aiger.specs.Form.{if◌then◌else◌, number, line, Gate, gate, Header, header}
+use Rattle.std.proofs.Common.{if◌then◌else◌}
+use Rattle.aiger.specs.Form.{number, line, Gate, gate, Header, header}
 use Rattle.aiger.specs.Net.{Got, got, refused, Part, go_on, ◌>>=◌, at_line, on_line, check, defined, fresh, input_lines, output_lines, in_order, rights_defined, lefts, gate_lines, known, Unknown, at, nowhere, unknown_output, all_known, limits, Net, body, circuit}
 use Rattle.aiger.specs.Accepted.{New, News, InOrder, GateOk, Chain, Knowns, Accepted, Ascending}
 use Rattle.aiger.specs.declared.net.Refusal.{Refusal}

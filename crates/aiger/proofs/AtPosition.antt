@@ -5,7 +5,7 @@ use mathlib.Core.Bool.{true, false}
 use mathlib.Core.List.{List, [], ◌∷◌}
 use native.Mathlib.Numerals.{add-one}
 use lib.Dec.{eqb, leb}
-use borrow.Author.Tests.{leb-true}
+use borrow.Author.Tests.{leb-true, le-leb, lt-leb}
 use lib.ListN.{length, get_or, drop, drop_of_length-le}
 use lib.Seq.{drop-cons}
 use Rattle.aiger.proofs.Bools.{split_and}
@@ -56,6 +56,13 @@ module _ (s : List ℕ) (at : ℕ) where
     pub digits_big : (n : ℕ) → digit (get_or s at 0) ≡ true → leb (n * 10 + (get_or s at 0 - 48)) 65535 ≡ false → digits n (drop at s) ≡ fault BadNumber
     unfolding digits
     digits_big n e l = rw (front, e, l)
+
+    -- the same by facts in place of tests
+    pub digits_within : (n : ℕ) → digit (get_or s at 0) ≡ true → n * 10 + (get_or s at 0 - 48) ≤ 65535 → digits n (drop at s) ≡ digits (n * 10 + (get_or s at 0 - 48)) (drop (at + 1) s)
+    digits_within n e l = digits_more n e (le-leb _ _ l)
+
+    pub digits_over : (n : ℕ) → digit (get_or s at 0) ≡ true → 65535 < n * 10 + (get_or s at 0 - 48) → digits n (drop at s) ≡ fault BadNumber
+    digits_over n e l = digits_big n e (lt-leb _ _ l)
 
     pub zero_more : digit (get_or s at 0) ≡ true → zero_alone (drop at s) ≡ fault BadNumber
     unfolding zero_alone

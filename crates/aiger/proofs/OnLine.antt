@@ -7,7 +7,8 @@ use lib.Dec.{eqb}
 use lib.ListN.{drop}
 use Rattle.aiger.specs.declared.numbers.Fault.{Fault}
 use Rattle.aiger.specs.declared.numbers.Fault.TheVariants.{Other}
-use Rattle.aiger.specs.Form.{Read, read, fault, if◌then◌else◌, byte, Gate, Header}
+use Rattle.std.proofs.Common.{if◌then◌else◌}
+use Rattle.aiger.specs.Form.{Read, read, fault, byte, Gate, Header}
 use Rattle.aiger.specs.Answers.{step_of, number_of, lits_of, gate_of, broken_of, malformed_of, header_of, sizes_of, fault_of, stop_of}
 use Rattle.aiger.specs.declared.header.Sizes.{Sizes}
 use Rattle.aiger.specs.declared.header.HeaderRead as headers

@@ -9,7 +9,8 @@ use lib.Dec.{eqb}
 use lib.ListN.{length}
 use lib.Seq.{append_snoc}
 use borrow.Author.Tests.{eq-eqb, eqb-true}
-use Rattle.aiger.specs.Form.{Gate, if◌then◌else◌}
+use Rattle.std.proofs.Common.{if◌then◌else◌}
+use Rattle.aiger.specs.Form.{Gate}
 use Rattle.aiger.specs.Net.{defined, lefts, Net}
 use Rattle.aiger.specs.Meaning.{Values, literal, assign, feed, run, values}
 use Rattle.aiger.proofs.Marking.{defined_snoc}

@@ -1,6 +1,6 @@
 -- The line form of the scope, 'AIGER text'. A text is a list of bytes, and a reader says what stands at the front of what is left of it.
 -- Assumes nothing.
-use Rattle.std.specs.Prelude.{ℕ, ◌+◌, ◌*◌, ◌-◌, Bool, true, false, ◌&&◌, ◌||◌, List, [], ◌∷◌, eqb, leb}
+use Rattle.std.specs.Prelude.{ℕ, ◌+◌, ◌*◌, ◌-◌, Bool, true, false, ◌&&◌, ◌||◌, if◌then◌else◌, List, [], ◌∷◌, eqb, leb}
 use Rattle.aiger.specs.declared.numbers.Fault.{Fault}
 use Rattle.aiger.specs.declared.numbers.Fault.TheVariants.{NoNewline, BadNumber, Other}
 
@@ -13,11 +13,6 @@ pub data Read (A : Type 0) : Type 0 where
 
 abbrev pub Reader : Type 0 → Type 0
 Reader A = List ℕ → Read A
-
-infix 10 if◌then◌else◌
-abbrev pub if◌then◌else◌ : {A : Type 0} → Bool → A → A → A
-if◌then◌else◌ true x y = x
-if◌then◌else◌ false x y = y
 
 abbrev pub and_then : {A B : Type 0} → Read A → (A → Reader B) → Read B
 and_then (read a rest) f = f a rest

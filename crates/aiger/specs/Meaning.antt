@@ -1,7 +1,7 @@
 -- What a circuit means, as the AIGER format says: the value of every literal, given a value for each input.
 -- Assumes nothing.
-use Rattle.std.specs.Prelude.{ℕ, ◌/◌, ◌%◌, Bool, false, ◌&&◌, not, List, [], ◌∷◌, map, eqb}
-use Rattle.aiger.specs.Form.{Gate, if◌then◌else◌}
+use Rattle.std.specs.Prelude.{ℕ, ◌/◌, ◌%◌, Bool, false, ◌&&◌, not, if◌then◌else◌, List, [], ◌∷◌, map, eqb}
+use Rattle.aiger.specs.Form.{Gate}
 use Rattle.aiger.specs.Net.{Net}
 
 -- a value for each variable

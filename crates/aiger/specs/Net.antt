@@ -1,8 +1,8 @@
 -- The net that a text gives, or its refusal with its line. Line 1 is the header, so input k (from 0) is line 2 + k, output k line 2 + I + k,
 -- and gate k line 2 + I + O + k.
 -- Assumes nothing.
-use Rattle.std.specs.Prelude.{ℕ, zero, suc, ◌+◌, ◌*◌, ◌/◌, ◌%◌, Bool, ◌&&◌, ◌||◌, not, List, [], ◌∷◌, ◌++◌, map, eqb, leb, ltb, length}
-use Rattle.aiger.specs.Form.{Read, read, fault, Reader, if◌then◌else◌, number, line, Gate, gate, Header, header}
+use Rattle.std.specs.Prelude.{ℕ, zero, suc, ◌+◌, ◌*◌, ◌/◌, ◌%◌, Bool, ◌&&◌, ◌||◌, not, if◌then◌else◌, List, [], ◌∷◌, ◌++◌, map, eqb, leb, ltb, length}
+use Rattle.aiger.specs.Form.{Read, read, fault, Reader, number, line, Gate, gate, Header, header}
 use Rattle.aiger.specs.declared.net.Refusal.{Refusal}
 use Rattle.aiger.specs.declared.net.Refusal.TheVariants.{TooLong, Form, Limits, Literal, Order}
 

@@ -52,6 +52,7 @@ fn is_digit(x: u8) -> bool
 }
 
 // The digits that go on from the number `first`.
+#[tactic(auto, using(crate::proofs::AtPosition::digits_end, crate::proofs::AtPosition::digits_stop, crate::proofs::AtPosition::digits_within, crate::proofs::AtPosition::digits_over))]
 fn digits(s: &[u8], from: usize, first: u16) -> Read
     ensures { number_of s.now result ≡ form.digits first (drop from s.now) }
 {
@@ -85,6 +86,7 @@ fn zero_alone(s: &[u8], at: usize) -> Read
     Read::Number(0, at)
 }
 
+#[tactic(auto, using(crate::proofs::AtPosition::number_end, crate::proofs::AtPosition::number_zero, crate::proofs::AtPosition::number_no, crate::proofs::AtPosition::number_on))]
 pub fn number(s: &[u8], at: usize) -> Read
     ensures { number_of s.now result ≡ form.number (drop at s.now) }
 {

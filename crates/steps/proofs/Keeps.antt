@@ -1,9 +1,10 @@
 -- The steps only append, whatever the table and the numbers.
+use Rattle.std.proofs.Common.{if◌then◌else◌}
 use Prim.Native.Nat.{ℕ, zero, suc}
 use mathlib.Core.Bool.{Bool, true, false, ◌||◌}
 use lib.Dec.{eqb, ltb}
 use Rattle.steps.specs.Rows.{Row, Rows, find, row, row_of}
-use Rattle.steps.specs.Steps.{Steps, ◌>>=◌, if◌then◌else◌, make, sums, products, normals}
+use Rattle.steps.specs.Steps.{Steps, ◌>>=◌, make, sums, products, normals}
 use Rattle.steps.proofs.Rows.{◌≼◌, stop, more, ≼_trans}
 
 abbrev pub Keeps : Steps → Type 0

@@ -1,4 +1,5 @@
 -- The steps read literally, with a check of the room at each appended row, are the steps without one and one check at the end.
+use Rattle.std.proofs.Common.{if◌then◌else◌}
 use Prim.Native.Nat.{ℕ, zero, suc, ◌≤◌}
 use mathlib.Core.Path.{◌≡◌, refl, sym}
 use mathlib.Core.Bool.{Bool, true, false, ◌||◌}
@@ -7,7 +8,7 @@ use lib.Dec.{eqb, ltb}
 use borrow.Author.Tests.{eqb-true, eqb-false}
 use Rattle.steps.specs.Room.{Ending, made, full, within}
 use Rattle.steps.specs.Rows.{Row, row_of, Rows, ◌▹◌, count, next, find, row}
-use Rattle.steps.specs.Steps.{Steps, answer, ◌>>=◌, if◌then◌else◌, append, make, sums, sum, products, product, normals}
+use Rattle.steps.specs.Steps.{Steps, answer, ◌>>=◌, append, make, sums, sum, products, product, normals}
 use Rattle.steps.proofs.Keeps.{Keeps, keeps_make, keeps_sums, keeps_products, keeps_normals, keeps_bind}
 use Rattle.steps.proofs.Room.{within_made, within_full, Fit, fits, over, fit}
 use Rattle.steps.proofs.Rows.{count_grows}

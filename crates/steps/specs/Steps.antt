@@ -1,6 +1,6 @@
 -- The written steps: "These fix which rows are appended and in what order."
 -- Assumes nothing: these are definitions.
-use Rattle.std.specs.Prelude.{ℕ, zero, suc, Bool, true, false, ◌||◌, eqb, ltb}
+use Rattle.std.specs.Prelude.{ℕ, zero, suc, Bool, true, false, ◌||◌, if◌then◌else◌, eqb, ltb}
 use Rattle.steps.specs.Rows.{Row, row_of, Rows, ◌▹◌, next, row, find}
 
 -- what steps answer: a number, and the rows in use after them
@@ -19,11 +19,6 @@ answer k R = record { num = k; rows = R }
 infixl 20 ◌>>=◌
 abbrev pub ◌>>=◌ : Steps → (ℕ → Steps) → Steps
 ◌>>=◌ m f R = let a = m R in f a.num a.rows
-
-infix 10 if◌then◌else◌
-abbrev pub if◌then◌else◌ : Bool → Steps → Steps → Steps
-if◌then◌else◌ true m n = m
-if◌then◌else◌ false m n = n
 
 abbrev pub append : Row → Steps
 append r R = answer (next R) (R ▹ r)

@@ -18,7 +18,8 @@ use Rattle.steps.proofs.Ok.{Is, Ok, is_keeps, is_as, ok_as, ok_answer, ok_by, ok
 use Rattle.steps.proofs.Product.{ok_products}
 use Rattle.steps.proofs.Rows.{◌≼◌, stop, ≼_trans, next_2, value_0, value_1, row_const}
 use Rattle.steps.proofs.Solve.{solve_node, solve_const}
-use Rattle.aiger.specs.Form.{Gate, if◌then◌else◌}
+use Rattle.std.proofs.Common.{if◌then◌else◌}
+use Rattle.aiger.specs.Form.{Gate}
 use Rattle.aiger.specs.Meaning.{literal, run}
 use Rattle.aiger.specs.Accepted.{Ascending}
 use Rattle.verdicts.specs.Systems.{literal_steps, gate_steps, build, output_steps}

@@ -9,7 +9,7 @@ use lib.ListN.{length, get_or}
 use borrow.Author.Tests.{eqb-true, eqb-false}
 use Rattle.steps.specs.One.{put}
 use Rattle.steps.specs.Rows.{Assignment}
-use Rattle.aiger.specs.Form.{if◌then◌else◌}
+use Rattle.std.proofs.Common.{if◌then◌else◌}
 use Rattle.aiger.specs.Meaning.{Values, literal, assign, feed, run}
 use Rattle.aiger.specs.Net.{Net, defined, lefts}
 use Rattle.aiger.specs.Accepted.{News, Knowns, Accepted}

@@ -9,7 +9,8 @@ use borrow.Author.Tests.{eqb-true, eqb-false, leb-true, leb-false, le-leb, lt-le
 use Rattle.steps.specs.One.{put}
 use Rattle.steps.specs.Rows.{Assignment}
 use Rattle.steps.proofs.Put.{put_same, put_other}
-use Rattle.aiger.specs.Form.{Gate, if◌then◌else◌}
+use Rattle.std.proofs.Common.{if◌then◌else◌}
+use Rattle.aiger.specs.Form.{Gate}
 use Rattle.aiger.specs.Meaning.{Values, literal, assign, run}
 use Rattle.aiger.specs.Accepted.{Ascending}
 

@@ -1,7 +1,8 @@
 -- A circuit's gates become a system, and an output is reduced by it: the steps of the scope's 'AIGER text'.
 -- Assumes nothing: these are definitions.
+use Rattle.std.specs.Prelude.{if◌then◌else◌}
 use Rattle.std.specs.Prelude.{ℕ, ◌-◌, ◌/◌, ◌%◌, List, [], ◌∷◌, ltb}
-use Rattle.steps.specs.Steps.{Steps, answer, ◌>>=◌, if◌then◌else◌, make, product, normal}
+use Rattle.steps.specs.Steps.{Steps, answer, ◌>>=◌, make, product, normal}
 use Rattle.steps.specs.System.{equation}
 use Rattle.aiger.specs.Form.{Gate}
 

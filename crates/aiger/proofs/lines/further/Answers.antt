@@ -1,7 +1,7 @@
-use Rattle.std.proofs.Common.{◌+◌, ◌-◌, ◌*◌, ◌<◌, ◌≤◌, ◌≡◌, length, refl, ap, arith}
-use mathlib.Core.Path.{sym, ◌∙◌}
+-- `lines::further` by what the space is.
+use Rattle.std.proofs.Common.{sym, ◌∙◌}
 use Rattle.aiger.specs.Form as form
-use Rattle.aiger.proofs.OnLine.{stepped_on, stepped_bad}
+use Rattle.aiger.proofs.OnLine.{stepped_bad}
 use Rattle.aiger.proofs.lines.further.Goals as goal
 
 pub returns-in_default : goal.returns-in_default
@@ -10,4 +10,4 @@ returns-in_default c = sym (rw (stepped_bad _ c.space-sp.ensures c.in_default.is
 
 pub returns : goal.returns
 unfolding form.further
-returns c = c.number_at.ensures ∙ sym (rw (stepped_on _ c.space-sp.ensures c.in-Next.is))
+returns c = c.number_at.ensures ∙ sym (rw (sym c.in-Next.ensures))

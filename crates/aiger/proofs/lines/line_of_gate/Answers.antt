@@ -1,30 +1,36 @@
-use Rattle.std.proofs.Common.{◌+◌, ◌-◌, ◌*◌, ◌<◌, ◌≤◌, ◌≡◌, length, ap, arith}
-use mathlib.Core.Path.{refl, sym, ◌∙◌}
-use borrow.Author.Tests.{not-true, not-false}
+-- `lines::line_of_gate` by what each part of the line is.
+use Rattle.std.proofs.Common.{sym}
 use Rattle.aiger.specs.Form as form
-use Rattle.aiger.proofs.OnLine.{number_read, number_bad, stepped_on, stepped_bad, byte_fault}
+use Rattle.aiger.proofs.OnLine.{number_bad, byte_fault}
 use Rattle.aiger.proofs.lines.line_of_gate.Goals as goal
 
 pub returns-then-not-newline_left : goal.returns-then-not-newline_left
 unfolding form.line
-returns-then-not-newline_left c = sym (rw (sym c.newline_left.ensures ∙ c.if-not-newline_left.true))
+returns-then-not-newline_left c = sym (rw (sym c.if-not-newline_left.ensures))
 
 pub returns-in_default : goal.returns-in_default
 unfolding form.line form.gate
-returns-in_default c = sym (rw (sym c.newline_left.ensures ∙ c.if-not-newline_left.false, number_bad _ c.number_at-a.ensures c.in_default.is c.read_fault.ensures))
+returns-in_default c = sym (rw (sym c.if-not-newline_left.ensures, number_bad _ c.number_at-a.ensures c.in_default.is c.read_fault.ensures))
 
 pub returns-in_default-b : goal.returns-in_default-b
 unfolding form.line form.gate
-returns-in_default-b c = sym (rw (sym c.newline_left.ensures ∙ c.if-not-newline_left.false, number_read _ c.number_at-a.ensures c.in-Number.is, number_bad _ c.further-b.ensures c.in_default-b.is c.read_fault-in_default-b.ensures))
+returns-in_default-b c =
+    sym (rw (sym c.if-not-newline_left.ensures, sym c.in-Number.ensures, number_bad _ c.further-b.ensures c.in_default-b.is c.read_fault-in_default-b.ensures))
 
 pub returns-in_default-c : goal.returns-in_default-c
 unfolding form.line form.gate
-returns-in_default-c c = sym (rw (sym c.newline_left.ensures ∙ c.if-not-newline_left.false, number_read _ c.number_at-a.ensures c.in-Number.is, number_read _ c.further-b.ensures c.in-Number-b.is, number_bad _ c.further-c.ensures c.in_default-c.is c.read_fault-in_default-c.ensures))
+returns-in_default-c c =
+    sym
+    (rw
+    (sym c.if-not-newline_left.ensures, sym c.in-Number.ensures, sym c.in-Number-b.ensures, number_bad _ c.further-c.ensures c.in_default-c.is c.read_fault-in_default-c.ensures))
 
 pub returns-in_default-byte : goal.returns-in_default-byte
 unfolding form.line form.gate
-returns-in_default-byte c = sym (rw (sym c.newline_left.ensures ∙ c.if-not-newline_left.false, number_read _ c.number_at-a.ensures c.in-Number.is, number_read _ c.further-b.ensures c.in-Number-b.is, number_read _ c.further-c.ensures c.in-Number-c.is, byte_fault _ _ _ (stepped_bad _ c.byte.ensures c.in_default-byte.is refl)))
+returns-in_default-byte c =
+    sym
+    (rw
+    (sym c.if-not-newline_left.ensures, sym c.in-Number.ensures, sym c.in-Number-b.ensures, sym c.in-Number-c.ensures, byte_fault _ _ _ (sym c.in_default-byte.ensures)))
 
 pub returns : goal.returns
 unfolding form.line form.gate
-returns c = sym (rw (sym c.newline_left.ensures ∙ c.if-not-newline_left.false, number_read _ c.number_at-a.ensures c.in-Number.is, number_read _ c.further-b.ensures c.in-Number-b.is, number_read _ c.further-c.ensures c.in-Number-c.is, stepped_on _ c.byte.ensures c.in-Next.is))
+returns c = sym (rw (sym c.if-not-newline_left.ensures, sym c.in-Number.ensures, sym c.in-Number-b.ensures, sym c.in-Number-c.ensures, sym c.in-Next.ensures))

@@ -1,10 +1,6 @@
-use Rattle.std.proofs.Common.{◌+◌, ◌*◌, ◌<◌, ◌≤◌, ap}
-use Prim.Native.Nat.{◌-◌}
-use mathlib.Core.Path.{◌≡◌, refl, sym, ◌∙◌}
-use native.Mathlib.Omega.{arith}
+-- `lines::newline_left` by what stands at the position.
+use Rattle.std.proofs.Common.{sym, ◌∙◌}
 use borrow.Author.Tests.{eq-eqb, ne_eqb}
-use lib.ListN.{length, drop}
-use Rattle.aiger.specs.Form as form
 use Rattle.aiger.proofs.AtPosition.{newline_end, newline_here, newline_on}
 use Rattle.aiger.proofs.lines.newline_left.Goals as goal
 

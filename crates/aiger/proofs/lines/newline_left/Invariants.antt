@@ -1,11 +1,6 @@
-use Rattle.std.proofs.Common.{◌+◌, ◌*◌, ◌<◌, ◌≤◌, ap}
-use Prim.Native.Nat.{◌-◌}
-use mathlib.Core.Path.{◌≡◌, refl, sym, ◌∙◌}
-use native.Mathlib.Omega.{arith}
-use borrow.Author.Tests.{eq-eqb, ne_eqb}
-use lib.ListN.{length, drop}
+-- No newline stands before the position.
+use Rattle.std.proofs.Common.{length, ◌-◌, ◌≡◌, drop}
 use Rattle.aiger.specs.Form as form
-use Rattle.aiger.proofs.AtPosition.{newline_end, newline_here, newline_on}
 use Rattle.aiger.proofs.lines.newline_left.Given as goal
 
 abbrev pub invariant-loop-at : goal.invariant-loop-at

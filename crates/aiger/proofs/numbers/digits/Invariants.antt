@@ -1,12 +1,6 @@
-use Rattle.std.proofs.Common.{◌+◌, ◌*◌, ◌<◌, ap}
-use Prim.Native.Nat.{◌≤◌, ◌-◌}
-use mathlib.Core.Path.{◌≡◌, refl, sym, ◌∙◌}
-use native.Mathlib.Omega.{arith}
-use borrow.Author.Tests.{not-true, not-false, lt-leb, le-leb}
-use borrow.Author.Rules.{rules}
-use lib.ListN.{length, get_or, drop}
+-- The digits before the position make the number so far.
+use Rattle.std.proofs.Common.{length, ◌-◌, ◌≡◌, drop, ◌≤◌}
 use Rattle.aiger.specs.Form as form
-use Rattle.aiger.proofs.AtPosition.{digits_end, digits_stop, digits_more, digits_big, digit_range}
 use Rattle.aiger.proofs.numbers.digits.Given as goal
 
 abbrev pub invariant-loop-at : goal.invariant-loop-at

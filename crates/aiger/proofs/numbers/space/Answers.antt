@@ -1,8 +1,7 @@
-use Rattle.std.proofs.Common.{◌+◌, ◌-◌, ◌*◌, ◌<◌, ◌≤◌, ◌≡◌, length, refl, ap, ◌∙◌, arith}
-use mathlib.Core.Path.{sym}
+-- `numbers::space` by what stands at the position.
+use Rattle.std.proofs.Common.{sym}
 use borrow.Author.Tests.{eq-eqb, ne_eqb}
 use Rattle.aiger.proofs.AtPosition.{space_end, space_is, space_line, space_other}
-use borrow.Author.Rules.{rules}
 use Rattle.aiger.proofs.numbers.space.Goals as goal
 
 pub returns-then-s-at : goal.returns-then-s-at

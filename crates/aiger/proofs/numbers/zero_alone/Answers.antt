@@ -1,7 +1,6 @@
-use Rattle.std.proofs.Common.{◌+◌, ◌-◌, ◌*◌, ◌<◌, ◌≤◌, ◌≡◌, length, refl, ap, arith}
-use mathlib.Core.Path.{sym, ◌∙◌}
+-- `numbers::zero_alone` by what stands at the position.
+use Rattle.std.proofs.Common.{sym, ◌∙◌}
 use Rattle.aiger.proofs.AtPosition.{zero_end, zero_more, zero_stop}
-use borrow.Author.Rules.{rules}
 use Rattle.aiger.proofs.numbers.zero_alone.Goals as goal
 
 pub returns-then-is_digit : goal.returns-then-is_digit

@@ -1,13 +1,7 @@
-use Rattle.std.proofs.Common.{◌*◌, ◌<◌, ◌≡◌, length, refl}
-use Prim.Native.Nat.{ℕ, ◌+◌, ◌≤◌, ◌-◌}
-use mathlib.Core.Path.{sym, ap, ◌∙◌}
-use mathlib.Core.List.{List}
-use native.Mathlib.Omega.{arith}
-use borrow.Author.Rules.{rules}
-use borrow.Author.Tests.{not-true, not-false}
-use Rattle.aiger.specs.Answers.{checked_of}
+-- The first k outputs are known.
+use Rattle.std.proofs.Common.{ℕ, ◌+◌, ◌-◌, ◌≤◌, List}
 use Rattle.aiger.specs.Marked.{Marks}
-use Rattle.aiger.proofs.KnownOutputs.{Passed, passed_start, passed_stop, passed_next, passed_end}
+use Rattle.aiger.proofs.KnownOutputs.{Passed}
 use Rattle.nets.proofs.body.check_outputs.Given as goal
 
 abbrev pub invariant-loop-k : goal.invariant-loop-k

@@ -1,8 +1,8 @@
-use Rattle.std.proofs.Common.{◌+◌, ◌-◌, ◌*◌, ◌<◌, ◌≤◌, ◌≡◌, length, refl, ap, arith}
-use mathlib.Core.Path.{sym, ◌∙◌}
-use borrow.Author.Tests.{not-true, not-false, le-leb, lt-leb}
+-- `for_circuit::read_net` by what each part of the text gave.
+use Rattle.std.proofs.Common.{sym}
+use borrow.Author.Tests.{le-leb, lt-leb}
 use Rattle.aiger.specs.Net as net
-use Rattle.aiger.proofs.OnLine.{header_read, header_why}
+use Rattle.aiger.proofs.OnLine.{header_why}
 use Rattle.aiger.proofs.WholeNet.{net_refused, net_same}
 use Rattle.nets.proofs.for_circuit.read_net.Goals as goal
 
@@ -12,15 +12,15 @@ returns-then-s-gt32768 c = net_refused (rw (lt-leb _ 32768 c.if-s-gt32768.true))
 
 pub returns-in_default : goal.returns-in_default
 unfolding net.circuit
-returns-in_default c = net_refused (rw (le-leb _ 32768 c.if-s-gt32768.false, header_why _ c.line_of_header-f.ensures c.in_default.is c.header_fault.ensures))
+returns-in_default c =
+    net_refused (rw (le-leb _ 32768 c.if-s-gt32768.false, header_why _ c.line_of_header-f.ensures c.in_default.is c.header_fault.ensures))
 
 pub returns-then-not-limits : goal.returns-then-not-limits
 unfolding net.circuit
-returns-then-not-limits c = net_refused (rw (le-leb _ 32768 c.if-s-gt32768.false, header_read _ c.line_of_header-f.ensures c.in-Found.is, sym c.limits.ensures ∙ c.if-not-limits.true))
-
-pub read_body-requires : goal.read_body-requires
-read_body-requires c = record { small = sym c.limits.ensures ∙ c.if-not-limits.false; lent = c.requires }
+returns-then-not-limits c =
+    net_refused (rw (le-leb _ 32768 c.if-s-gt32768.false, sym c.in-Found.ensures, sym c.if-not-limits.ensures))
 
 pub returns : goal.returns
 unfolding net.circuit
-returns c = net_same c.read_body.ensures (rw (le-leb _ 32768 c.if-s-gt32768.false, header_read _ c.line_of_header-f.ensures c.in-Found.is, sym c.limits.ensures ∙ c.if-not-limits.false))
+returns c =
+    net_same c.read_body.ensures (rw (le-leb _ 32768 c.if-s-gt32768.false, sym c.in-Found.ensures, sym c.if-not-limits.ensures))
