@@ -5,9 +5,6 @@ use borrow.Author.Rules.{rules}
 use Rattle.printing.proofs.Puts.{put_then, put_as, decimal_one, decimal_short, decimal_long, decimal_fits}
 use Rattle.printing.proofs.line.+put_decimal.Goals as goal
 
-abbrev calls : ℕ → put-decimal-lts.Claims
-calls t = (put_reads.Asked, put_reads.Learnt, put-decimal-below t, put-decimal.Post)
-
 pub put-requires : goal.put-requires
 put-requires t c = omega (arith, c.requires)
 

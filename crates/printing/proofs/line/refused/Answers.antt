@@ -5,7 +5,7 @@ use borrow.Author.Rules.{rules}
 use Rattle.printing.proofs.line.refused.Goals as goal
 
 pub put-requires : goal.put-requires
-put-requires c = omega (arith, c.requires, c.put_all_lem.ensures.ends, c.put_all_lem.ensures.same_length, c.put_decimal-b.ensures.ends, c.put_decimal-b.ensures.same_length, decimal_fits 1 c.args.number)
+put-requires c = omega (arith, c.requires, c.put_all-a.ensures.ends, c.put_all-a.ensures.same_length, c.put_decimal-b.ensures.ends, c.put_decimal-b.ensures.same_length, decimal_fits 1 c.args.number)
 
 pub returns : goal.returns
-returns c = put_then (put_then c.put_all_lem.ensures c.put_decimal-b.ensures) c.put.ensures
+returns c = put_then (put_then c.put_all-a.ensures c.put_decimal-b.ensures) c.put.ensures
