@@ -1,6 +1,6 @@
 -- The line form of the scope, 'AIGER text'. A text is a list of bytes, and a reader says what stands at the front of what is left of it.
 -- Assumes nothing.
-use Rattle.std.specs.Prelude.{ℕ, ◌+◌, ◌*◌, ◌-◌, Bool, true, false, ◌&&◌, ◌||◌, if◌then◌else◌, List, [], ◌∷◌, eqb, leb}
+use Rattle.std.specs.Prelude.{ℕ, ◌+◌, ◌*◌, ◌-◌, Bool, false, ◌&&◌, ◌||◌, if◌then◌else◌, List, [], ◌∷◌, eqb, leb}
 use Rattle.aiger.specs.declared.numbers.Fault.{Fault}
 use Rattle.aiger.specs.declared.numbers.Fault.TheVariants.{NoNewline, BadNumber, Other}
 

@@ -1,21 +1,23 @@
 // The program: reads an AIGER text from standard input and prints a verdict for every output, in a table of 4,096 rows. The system is built once.
 #![tactic(auto)]
 
-ghost use Rattle.std.specs.Prelude.{length};
+ghost use Rattle.std.specs.Prelude.{◌≤◌, length, IfOk};
 ghost use Rattle.steps.specs.Table.{slices};
 ghost use Rattle.aiger.specs.Answers as net;
 ghost use Rattle.mullagrane.specs.Inner.{Read, Ready};
 
 use aiger::header::Sizes;
 use aiger::net::{NetRead, Refusal};
-use libc::{STDIN_FILENO, STDOUT_FILENO};
 use nets::for_circuit::read_net;
 use outputs::system;
 use printing::{print, print_refusal};
+use std::io;
+use std::io::{Read, Write};
 use table::make::Made;
 
-// Each output from the system's rows, which stay. A standard output that is closed ends it.
+// Each output from the system's rows, which stay. A standard output that fails ends it.
 fn print_all(
+    rt: &impl Print,
     h: Sizes,
     ins: &[u16],
     outs: &[u16],
@@ -28,7 +30,7 @@ fn print_all(
     work: &mut [u64],
     made: Made,
     pattern: &mut [u8],
-)
+) -> io::Result<()>
     requires { Ready made (slices vs.old ts.old es.old) h
         (net.slices ins.now outs.now lefts.now rights0.now rights1.now)
         (length pattern.old) }
@@ -40,15 +42,22 @@ fn print_all(
         let k = print(
             h, ins, outs, lefts, rights0, rights1, vs, ts, es, work, made, o, pattern, &mut line,
         );
-        if !io::write_all(STDOUT_FILENO, &line[..k]) {
-            return;
-        }
+        io::writer(rt).write_all(&line[..k])?;
         o += 1;
     }
+    Ok(())
 }
 
 // The verdicts of an accepted net.
-fn judge_net(h: Sizes, ins: &[u16], outs: &[u16], lefts: &[u16], rights0: &[u16], rights1: &[u16])
+fn judge_net(
+    rt: &impl Print,
+    h: Sizes,
+    ins: &[u16],
+    outs: &[u16],
+    lefts: &[u16],
+    rights0: &[u16],
+    rights1: &[u16],
+) -> io::Result<()>
     requires { Read h (net.slices ins.now outs.now lefts.now rights0.now rights1.now) }
 {
     let mut vs = [0u16; 4096];
@@ -61,6 +70,7 @@ fn judge_net(h: Sizes, ins: &[u16], outs: &[u16], lefts: &[u16], rights0: &[u16]
         h, ins, outs, lefts, rights0, rights1, &mut vs, &mut ts, &mut es, &mut work,
     );
     print_all(
+        rt,
         h,
         ins,
         outs,
@@ -73,16 +83,16 @@ fn judge_net(h: Sizes, ins: &[u16], outs: &[u16], lefts: &[u16], rights0: &[u16]
         &mut work,
         made,
         &mut pattern[..inputs],
-    );
+    )
 }
 
-fn print_refused(why: Refusal) {
+fn print_refused(rt: &impl Print, why: Refusal) -> io::Result<()> {
     let mut line = [0u8; 16];
     let k = print_refusal(why, &mut line);
-    io::write_all(STDOUT_FILENO, &line[..k]);
+    io::writer(rt).write_all(&line[..k])
 }
 
-fn judge_text(text: &[u8]) {
+fn judge_text(rt: &impl Print, text: &[u8]) -> io::Result<()> {
     let mut ins = [0u16; 1024];
     let mut outs = [0u16; 1024];
     let mut lefts = [0u16; 1024];
@@ -97,14 +107,29 @@ fn judge_text(text: &[u8]) {
         &mut rights1,
     );
     match r {
-        NetRead::Whole(h, _) => judge_net(h, &ins, &outs, &lefts, &rights0, &rights1),
-        NetRead::Unread(why) => print_refused(why),
+        NetRead::Whole(h, _) => judge_net(rt, h, &ins, &outs, &lefts, &rights0, &rights1),
+        NetRead::Unread(why) => print_refused(rt, why),
     }
 }
 
+// Reads until the buffer is full or the input ends, and says how many bytes it put at the buffer's start.
+fn read_full<R: Read>(from: &mut R, buf: &mut [u8]) -> io::Result<usize>
+    ensures { IfOk result (λ n. n ≤ length buf.new) }
+{
+    let mut done = 0;
+    while done < buf.len() {
+        let n = from.read(&mut buf[done..])?;
+        if n == 0 {
+            return Ok(done);
+        }
+        done += n;
+    }
+    Ok(done)
+}
+
 // One byte more than a text may have is enough to refuse it.
-fn main() {
+fn main(rt: HostRuntime) -> io::Result<()> {
     let mut text = [0u8; 32769];
-    let length = io::read_full(STDIN_FILENO, &mut text);
-    judge_text(&text[..length]);
+    let length = read_full(&mut rt.reader(), &mut text)?;
+    judge_text(&rt, &text[..length])
 }

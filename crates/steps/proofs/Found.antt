@@ -7,7 +7,6 @@ use lib.Dec.{eqb}
 use borrow.Author.Tests.{eqb-true, eq-eqb}
 use Rattle.steps.specs.Rows.{Row, Rows, none, ◌▹◌, next, alike, find, row}
 use Rattle.steps.proofs.Bools.{both_true}
-use Rattle.steps.proofs.Compare.{inner}
 use Rattle.steps.proofs.Rows.{◌≼◌, stop, more, next_2, row_newest, row_older}
 
 -- equality of rows by the test

@@ -6,7 +6,7 @@ use native.Mathlib.Omega.{arith}
 use lib.Dec.{eqb}
 use borrow.Author.Tests.{eqb-true, eqb-false, ne_eqb, lt-ltb}
 use Rattle.steps.specs.Rows.{Row, Rows, none, ◌▹◌, next, Assignment, value, find, row, row_of}
-use Rattle.steps.specs.Sound.{Sound, sound}
+use Rattle.steps.specs.Sound.{Sound}
 use Rattle.steps.specs.Steps.{Steps, answer, ◌>>=◌, make}
 use Rattle.steps.proofs.Bools.{and_false, xor_false}
 use Rattle.steps.proofs.Found.{find_keeps, find_newest, found}

@@ -7,7 +7,6 @@ use lib.Dec.{eqb}
 use borrow.Author.Tests.{eqb-true, eqb-false, eq-eqb, ne_eqb}
 use Rattle.steps.specs.Rows.{Row, row_of, Rows, none, ◌▹◌, count, next, Assignment, value, row}
 use Rattle.steps.specs.Sound.{Fits, Sound}
-use Rattle.steps.proofs.Compare.{inner}
 
 -- R is a beginning of S
 infix 40 ◌≼◌

@@ -6,7 +6,7 @@ use native.Mathlib.Omega.{arith}
 use Rattle.steps.specs.One.{put, one, NotGreater}
 use Rattle.steps.specs.Room.{made, within}
 use Rattle.steps.specs.Rows.{Rows, count, next, Assignment, value, root}
-use Rattle.steps.specs.Sound.{Sound, sound}
+use Rattle.steps.specs.Sound.{Sound}
 use Rattle.steps.specs.Steps.{Answer, Steps, answer, make, sums, sum, products, product, normals, normal}
 use Rattle.steps.specs.System.{end_of, holds, leads, occurs}
 use Rattle.steps.proofs.Canonical.{canon}

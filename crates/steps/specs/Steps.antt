@@ -1,6 +1,6 @@
 -- The written steps: "These fix which rows are appended and in what order."
 -- Assumes nothing: these are definitions.
-use Rattle.std.specs.Prelude.{ℕ, zero, suc, Bool, true, false, ◌||◌, if◌then◌else◌, eqb, ltb}
+use Rattle.std.specs.Prelude.{ℕ, zero, suc, ◌||◌, if◌then◌else◌, eqb, ltb}
 use Rattle.steps.specs.Rows.{Row, row_of, Rows, ◌▹◌, next, row, find}
 
 -- what steps answer: a number, and the rows in use after them

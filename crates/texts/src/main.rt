@@ -2,8 +2,11 @@
 // Frame: a line with the text's length in bytes, then that many bytes. The end of the input ends the texts.
 #![tactic(auto)]
 
+ghost use Rattle.std.specs.Prelude.{◌≤◌, length, IfOk};
+
 use aiger::Answer;
-use libc::{STDIN_FILENO, STDOUT_FILENO};
+use std::io;
+use std::io::{Read, Write};
 
 #[derive(Clone, Copy)]
 enum Frame {
@@ -11,85 +14,95 @@ enum Frame {
     End,
 }
 
+// Reads until the buffer is full or the input ends, and says how many bytes it put at the buffer's start.
+fn read_full<R: Read>(from: &mut R, buf: &mut [u8]) -> io::Result<usize>
+    ensures { IfOk result (λ n. n ≤ length buf.new) }
+{
+    let mut done = 0;
+    while done < buf.len() {
+        let n = from.read(&mut buf[done..])?;
+        if n == 0 {
+            return Ok(done);
+        }
+        done += n;
+    }
+    Ok(done)
+}
+
 // The length that the next frame begins with: up to eight digits and a newline. Anything else ends the texts.
-fn next_frame() -> Frame {
+fn next_frame<R: Read>(from: &mut R) -> io::Result<Frame> {
     let mut n: usize = 0;
     let mut one = [0u8; 1];
     let mut digits: usize = 0;
     while digits < 9 {
-        if io::read_full(STDIN_FILENO, &mut one) == 0 {
-            return Frame::End;
+        if read_full(from, &mut one)? == 0 {
+            return Ok(Frame::End);
         }
         let x = one[0];
         if x == b'\n' {
-            return Frame::Text(n);
+            return Ok(Frame::Text(n));
         }
         if x < b'0' {
-            return Frame::End;
+            return Ok(Frame::End);
         }
         if b'9' < x {
-            return Frame::End;
+            return Ok(Frame::End);
         }
         // eight digits at most, also behind zeros
         if 9999999 < n {
-            return Frame::End;
+            return Ok(Frame::End);
         }
         n = n * 10 + ((x - b'0') as usize);
         digits += 1;
     }
-    Frame::End
+    Ok(Frame::End)
 }
 
-fn skip(n: usize) {
-    let mut buffer = io::buffer();
+fn skip<R: Read>(from: &mut R, n: usize) -> io::Result<()> {
+    let mut buffer = [0u8; 4096];
     let mut left = n;
     while 4096 < left {
-        io::read_full(STDIN_FILENO, &mut buffer);
+        read_full(from, &mut buffer)?;
         left -= 4096;
     }
-    io::read_full(STDIN_FILENO, &mut buffer[..left]);
+    read_full(from, &mut buffer[..left])?;
+    Ok(())
 }
 
-fn print(answer: Answer) {
+fn print(rt: &impl Print, answer: Answer) -> io::Result<()> {
     match answer {
-        Answer::Counted(i, o) => {
-            io::print_decimal(STDOUT_FILENO, i as u64);
-            io::write_all(STDOUT_FILENO, b" ");
-            io::print_decimal(STDOUT_FILENO, o as u64);
-        }
-        Answer::Refused(number) => {
-            io::write_all(STDOUT_FILENO, b"refused ");
-            io::print_decimal(STDOUT_FILENO, number as u64);
-        }
+        Answer::Counted(i, o) => println!(rt; "{i} {o}"),
+        Answer::Refused(number) => println!(rt; "refused {number}"),
     }
-    io::write_all(STDOUT_FILENO, b"\n");
 }
 
 // A text of n bytes. One longer than the buffer is refused for its length alone, so its start stands for it.
-fn one_text(n: usize) {
-    let mut buffer = io::large_buffer();
+fn one_text<R: Read>(rt: &impl Print, from: &mut R, n: usize) -> io::Result<()> {
+    let mut buffer = [0u8; 65536];
     if n <= 65536 {
-        let got = io::read_full(STDIN_FILENO, &mut buffer[..n]);
-        print(nets::text(&buffer[..got]));
+        let got = read_full(from, &mut buffer[..n])?;
+        print(rt, nets::text(&buffer[..got]))
     } else {
-        io::read_full(STDIN_FILENO, &mut buffer);
-        skip(n - 65536);
-        print(nets::text(&buffer));
+        read_full(from, &mut buffer)?;
+        skip(from, n - 65536)?;
+        print(rt, nets::text(&buffer))
     }
 }
 
-fn next_text() -> bool {
-    let Frame::Text(n) = next_frame() else {
-        return false;
+fn next_text<R: Read>(rt: &impl Print, from: &mut R) -> io::Result<bool> {
+    let Frame::Text(n) = next_frame(from)? else {
+        return Ok(false);
     };
-    one_text(n);
-    true
+    one_text(rt, from, n)?;
+    Ok(true)
 }
 
 // A proved loop has to end, so it counts down from a number that no run uses up.
-fn main() {
+fn main(rt: HostRuntime) -> io::Result<()> {
+    let mut from = rt.reader();
     let mut turns = u64::MAX;
-    while turns > 0 && next_text() {
+    while turns > 0 && next_text(&rt, &mut from)? {
         turns -= 1;
     }
+    Ok(())
 }

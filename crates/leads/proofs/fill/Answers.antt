@@ -1,9 +1,5 @@
-use Rattle.std.proofs.Common.{◌+◌, ◌*◌, ◌<◌, ◌≤◌, ◌≡◌, length, refl, ap, sym, ◌∙◌}
 use native.Mathlib.Omega.{arith}
-use Prim.Native.Nat.{◌-◌}
-use borrow.Author.Rules.{rules}
-use Rattle.steps.specs.Table.{slices}
-use Rattle.leads.proofs.Filling.{from_fits, table_fits, no_table, Filling, fill_none, fill_starts, fill_ends, fill_asks, fill_there, fill_goes_on}
+use Rattle.leads.proofs.Filling.{from_fits, table_fits, no_table, fill_none, fill_starts, fill_ends, fill_asks, fill_there, fill_goes_on}
 use Rattle.leads.proofs.fill.Goals as goal
 
 pub overflow_sub-work : goal.overflow_sub-work

@@ -1,9 +1,6 @@
-use Rattle.std.proofs.Common.{◌+◌, ◌*◌, ◌<◌, ◌≤◌, ◌≡◌, length, refl, ap, sym, ◌∙◌}
-use native.Mathlib.Omega.{arith}
 use Prim.Native.Nat.{◌-◌}
-use borrow.Author.Rules.{rules}
 use Rattle.steps.specs.Table.{slices}
-use Rattle.leads.proofs.Filling.{from_fits, table_fits, no_table, Filling, fill_none, fill_starts, fill_ends, fill_asks, fill_there, fill_goes_on}
+use Rattle.leads.proofs.Filling.{Filling}
 use Rattle.leads.proofs.fill.Given as goal
 
 abbrev pub invariant-loop-v : goal.invariant-loop-v

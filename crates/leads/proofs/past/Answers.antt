@@ -1,4 +1,3 @@
-use Rattle.std.proofs.Common.{◌+◌, ◌-◌, ◌*◌, ◌<◌, ◌≤◌, ◌≡◌, length, refl, ap, sym, ◌∙◌}
 use Rattle.leads.proofs.Walking.{is_past, is_at_lead}
 use native.Mathlib.Omega.{arith}
 use Rattle.leads.proofs.past.Goals as goal

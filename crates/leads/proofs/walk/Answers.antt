@@ -1,7 +1,4 @@
-use Rattle.std.proofs.Common.{◌+◌, ◌*◌, ◌<◌, ◌≤◌, ◌≡◌, length, refl, ap, sym, ◌∙◌, arith}
-use Prim.Native.Nat.{◌-◌}
-use Rattle.steps.specs.Table.{slices, rows_of}
-use Rattle.leads.proofs.Walking.{Walked, walk_asks, walk_starts, walk_ends, walk_on_asks, walk_falls, walk_goes_on}
+use Rattle.leads.proofs.Walking.{walk_asks, walk_starts, walk_ends, walk_on_asks, walk_falls, walk_goes_on}
 use Rattle.leads.proofs.walk.Goals as goal
 
 pub row_of-a-requires : goal.row_of-a-requires

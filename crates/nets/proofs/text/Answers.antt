@@ -1,5 +1,3 @@
-use Rattle.std.proofs.Common.{◌+◌, ◌-◌, ◌*◌, ◌<◌, ◌≤◌, ◌≡◌, length, ap, sym, ◌∙◌}
-use mathlib.Core.Path.{refl}
 use native.Mathlib.Omega.{arith}
 use Rattle.aiger.proofs.WholeNet.{lent_fresh, answer_counted, answer_refused}
 use Rattle.nets.proofs.text.Goals as goal

@@ -1,11 +1,6 @@
-use Rattle.std.proofs.Common.{◌≤◌, ◌≡◌, length, refl, ap, sym, arith}
-use borrow.Author.Rules.{rules}
-use mathlib.Core.Path.{◌∙◌}
 use Rattle.steps.specs.Table.{slices, rows_of}
 use Rattle.sums.specs.Inner.{depth}
-use Rattle.sums.proofs.Keeping.{kept_is, kept_nothing}
-use Rattle.reduction.proofs.Deep.{form_const, form_asks, form_below, form_empty, form_deep, form_full, form_key, form_recalled, form_remembered, deep_asks, deep_asks_2, below_asks, below_done, meet_asks, meet_done, then_asks, then_full, else_asks, else_full, make_asks, below_made, rest_asks, rest_full, rest_joins, rest_done, a_asks, a_full, b_asks, b_full, rest_follows, meet_made}
-use Prim.Native.Nat.{ℕ, ◌<◌, ◌*◌, ◌+◌, ◌-◌}
+use Prim.Native.Nat.{◌*◌, ◌+◌, ◌-◌}
 use Rattle.reduction.proofs.+meet_rest_normal_below_normal_deep_normal_form_normal_meet.Given as goal
 
 abbrev pub decreases-meet_rest : goal.decreases-meet_rest

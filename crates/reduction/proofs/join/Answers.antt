@@ -1,6 +1,3 @@
-use Rattle.std.proofs.Common.{◌+◌, ◌-◌, ◌*◌, ◌<◌, ◌≤◌, ◌≡◌, length, refl, ap, sym, arith}
-use mathlib.Core.Path.{◌∙◌}
-use borrow.Author.Rules.{rules}
 use Rattle.sums.proofs.Keeping.{kept_is}
 use Rattle.reduction.proofs.Deep.{join_asks, join_full, join_asks_2, join_done}
 use Rattle.reduction.proofs.join.Goals as goal

@@ -1,6 +1,3 @@
-use Rattle.std.proofs.Common.{◌+◌, ◌-◌, ◌*◌, ◌<◌, ◌≤◌, ◌≡◌, length, refl, ap, sym, arith}
-use mathlib.Core.Path.{◌∙◌}
-use borrow.Author.Rules.{rules}
 use Rattle.reduction.proofs.Deep.{reduce_asks, reduce_done}
 use Rattle.reduction.proofs.reduce.Goals as goal
 

@@ -1,11 +1,7 @@
-use Rattle.std.proofs.Common.{◌+◌, ◌*◌, ◌<◌, ap}
-use Prim.Native.Nat.{◌≤◌, ◌-◌}
-use mathlib.Core.Path.{◌≡◌, refl, sym, ◌∙◌}
+use mathlib.Core.Path.{refl, sym, ◌∙◌}
 use native.Mathlib.Omega.{arith}
-use borrow.Author.Tests.{not-true, not-false, lt-leb, le-leb}
-use borrow.Author.Rules.{rules}
-use lib.ListN.{length, get_or, drop}
-use Rattle.aiger.specs.Form as form
+use borrow.Author.Tests.{lt-leb, le-leb}
+use lib.ListN.{get_or}
 use Rattle.aiger.proofs.AtPosition.{digits_end, digits_stop, digits_more, digits_big, digit_range}
 use Rattle.aiger.proofs.numbers.digits.Goals as goal
 

@@ -1,4 +1,3 @@
-use Rattle.std.proofs.Common.{◌+◌, ◌-◌, ◌*◌, ◌<◌, ◌≤◌, ◌≡◌, length, refl, ap, sym, ◌∙◌, arith}
 use borrow.Author.Tests.{le-leb, lt-leb}
 use Rattle.aiger.proofs.numbers.is_digit.Goals as goal
 

@@ -1,10 +1,8 @@
-use Rattle.std.proofs.Common.{◌+◌, ◌-◌, ◌*◌, ◌<◌, ◌≤◌, ◌≡◌, length, refl, ap}
 use mathlib.Core.Path.{sym, ◌∙◌}
 use native.Mathlib.Omega.{arith}
 use lib.ListN.{get_or}
-use borrow.Author.Tests.{eq-eqb, ne_eqb, not-true, not-false}
+use borrow.Author.Tests.{eq-eqb, ne_eqb}
 use Rattle.aiger.proofs.AtPosition.{number_end, number_zero, number_no, number_on, digit_range}
-use borrow.Author.Rules.{rules}
 use Rattle.aiger.proofs.numbers.number.Goals as goal
 
 pub returns-then-s-at : goal.returns-then-s-at

@@ -1,11 +1,8 @@
-use Rattle.std.proofs.Common.{◌+◌, ◌-◌, ◌*◌, ◌<◌, ◌≤◌, ◌≡◌, refl, ap, sym}
 use lib.ListN.{length}
 use mathlib.Core.Path.{◌∙◌}
 use native.Mathlib.Omega.{arith}
-use borrow.Author.Tests.{not-true, not-false}
 use Rattle.table.proofs.Words.{reach_fits}
 use Rattle.checks.proofs.Checking.{in_range_vars, in_range_lent, zeroed, checked_fine, checked_unsound}
-use borrow.Author.Rules.{rules}
 use Rattle.checks.proofs.check.check.Goals as goal
 
 pub returns-then-not-in_range : goal.returns-then-not-in_range

@@ -1,4 +1,3 @@
-use Rattle.std.proofs.Common.{◌+◌, ◌-◌, ◌*◌, ◌<◌, ◌≤◌, ◌≡◌, length, refl, ap, sym, ◌∙◌, arith}
 use borrow.Author.Tests.{le-leb, lt-leb, eq-eqb, ne_eqb}
 use Rattle.table.specs.Calls.{in_range}
 use Rattle.checks.proofs.check.in_range.Goals as goal

@@ -1,8 +1,6 @@
-use Rattle.std.proofs.Common.{◌+◌, ◌-◌, ◌*◌, ◌<◌, ◌≤◌, ◌≡◌, length, refl, sym, ◌∙◌, arith}
 use mathlib.Core.Path.{ap}
 use Rattle.steps.specs.Rows.{Row as Triple}
 use Rattle.checks.proofs.Checking.{var_out, then_out, else_out, then_zero, then_before, else_tested}
-use borrow.Author.Rules.{rules}
 use Rattle.checks.proofs.check.parts_fit.Goals as goal
 
 pub returns-then-n-x : goal.returns-then-n-x

@@ -1,9 +1,6 @@
-use Rattle.std.proofs.Common.{◌+◌, ◌-◌, ◌*◌, ◌<◌, ◌≤◌, ◌≡◌, length, refl, sym, arith}
 use mathlib.Core.Path.{ap, ◌∙◌}
-use borrow.Author.Tests.{not-true, not-false}
 use Rattle.table.specs.Inner.{number_of}
 use Rattle.checks.proofs.Checking.{fits_not, fits_twice, fits_all}
-use borrow.Author.Rules.{rules}
 use Rattle.checks.proofs.check.row_fits.Goals as goal
 
 pub returns-then-not-parts_fit : goal.returns-then-not-parts_fit

@@ -1,6 +1,4 @@
-use Rattle.std.proofs.Common.{◌+◌, ◌-◌, ◌*◌, ◌<◌, ◌≤◌, ◌≡◌, length, refl, ap, sym, ◌∙◌, arith}
 use Rattle.checks.proofs.Endings.{finished_at, finished_full}
-use borrow.Author.Rules.{rules}
 use Rattle.checks.proofs.finish.finish.Goals as goal
 
 pub returns-in_default : goal.returns-in_default

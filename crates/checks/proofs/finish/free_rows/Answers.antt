@@ -1,6 +1,4 @@
-use Rattle.std.proofs.Common.{◌+◌, ◌-◌, ◌*◌, ◌<◌, ◌≤◌, ◌≡◌, length, refl, ap, sym, ◌∙◌, arith}
 use Rattle.checks.proofs.Freed.{slices_same, zeros_from}
-use borrow.Author.Rules.{rules}
 use Rattle.checks.proofs.finish.free_rows.Goals as goal
 
 pub returns : goal.returns

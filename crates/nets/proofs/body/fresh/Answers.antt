@@ -1,10 +1,8 @@
-use Rattle.std.proofs.Common.{◌-◌, ◌<◌, ◌≤◌, length, refl, sym, ◌∙◌}
 use mathlib.Core.Path.{◌≡◌, ap}
 use Prim.Native.Nat.{ℕ, ◌+◌, ◌*◌, ◌%◌}
 use mathlib.Core.Bool.{not}
 use native.Mathlib.Omega.{arith}
 use borrow.Author.Tests.{eq-eqb, ne_eqb, le-leb, lt-leb}
-use borrow.Author.Rules.{rules}
 use Rattle.nets.proofs.body.fresh.Goals as goal
 
 pub returns-then-l-ne0 : goal.returns-then-l-ne0

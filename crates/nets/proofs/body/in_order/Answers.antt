@@ -1,4 +1,3 @@
-use Rattle.std.proofs.Common.{◌+◌, ◌-◌, ◌*◌, ◌<◌, ◌≤◌, ◌≡◌, length, refl, ap, sym, ◌∙◌, arith}
 use Prim.Native.Nat.{◌/◌}
 use borrow.Author.Tests.{lt-ltb, le-ltb}
 use Rattle.nets.proofs.body.in_order.Goals as goal

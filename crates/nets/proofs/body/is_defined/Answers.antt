@@ -1,10 +1,8 @@
-use Rattle.std.proofs.Common.{◌+◌, ◌-◌, ◌*◌, ◌<◌, ◌≤◌, ◌≡◌, length, refl, sym}
 use mathlib.Core.Path.{ap, ◌∙◌}
 use Prim.Native.Nat.{ℕ}
 use native.Mathlib.Omega.{arith}
 use lib.Dec.{eqb}
 use Rattle.aiger.proofs.Marking.{eqb_bit}
-use borrow.Author.Rules.{rules}
 use Rattle.nets.proofs.body.is_defined.Goals as goal
 
 pub returns : goal.returns

@@ -1,7 +1,5 @@
-use Rattle.std.proofs.Common.{◌-◌, ◌<◌, ◌≤◌, ◌≡◌, length, refl, ap, sym, ◌∙◌, arith}
 use Prim.Native.Nat.{◌+◌, ◌*◌}
 use borrow.Author.Tests.{le-leb, lt-leb}
-use borrow.Author.Rules.{rules}
 use Rattle.nets.proofs.body.known.Goals as goal
 
 pub returns-then-m-l : goal.returns-then-m-l

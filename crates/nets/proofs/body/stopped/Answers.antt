@@ -1,4 +1,3 @@
-use Rattle.std.proofs.Common.{◌+◌, ◌-◌, ◌*◌, ◌<◌, ◌≤◌, ◌≡◌, length, refl, ◌∙◌, arith}
 use mathlib.Core.Path.{sym, ap}
 use Rattle.aiger.specs.Answers.{stopped_of}
 use Rattle.nets.proofs.body.stopped.Goals as goal

@@ -1,15 +1,8 @@
-use Rattle.std.proofs.Common.{◌-◌, ◌≤◌, ◌≡◌, length, refl, ap, sym}
-use borrow.Author.Rules.{rules}
-use mathlib.Core.Path.{◌∙◌}
 use native.Mathlib.Omega.{arith}
-use Rattle.steps.specs.Table.{slices, rows_of}
-use Rattle.sums.specs.Inner.{depth}
 use Rattle.sums.proofs.Keeping.{kept_by, kept_is, kept_nothing}
-use Rattle.products.specs.Inner.{depth_rest, depth_then}
 use Rattle.products.proofs.Parts.{product_left_1, product_left_0, product_right_0, product_right_1, product_same, then_second, then_first}
 use Rattle.products.proofs.Remembering.{key_small, recalled, kept_remembered}
 use Rattle.products.proofs.Deep.{rest_asks, rest_full, rest_asks_2, rest_full_2, rest_asks_3, rest_done, then_asks, then_asks_second, then_full, then_asks_2, then_done, deep_asks, deep_full, deep_asks_2, deep_full_2, make_asks, product_made}
-use Prim.Native.Nat.{ℕ, ◌<◌, ◌*◌, ◌+◌}
 use Rattle.products.proofs.written.+product_product_deep_then_part_then_rest.Goals as goal
 
 pub product-returns-then-f-eq1 : goal.product-returns-then-f-eq1

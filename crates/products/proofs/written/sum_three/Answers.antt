@@ -1,8 +1,5 @@
-use Rattle.std.proofs.Common.{◌+◌, ◌-◌, ◌*◌, ◌<◌, ◌≤◌, ◌≡◌, length, refl, ap, sym, arith}
-use mathlib.Core.Path.{◌∙◌}
 use Rattle.sums.proofs.Keeping.{kept_is}
 use Rattle.products.proofs.Deep.{three_asks, three_full, three_asks_2, three_done}
-use borrow.Author.Rules.{rules}
 use Rattle.products.proofs.written.sum_three.Goals as goal
 
 pub sum-requires : goal.sum-requires

@@ -1,7 +1,5 @@
-use Rattle.std.proofs.Common.{◌+◌, ◌-◌, ◌*◌, ◌<◌, ◌≤◌, ◌≡◌, length, refl, ap, sym, ◌∙◌}
 use native.Mathlib.Omega.{arith}
 use Rattle.sums.proofs.Splits.{is_less, is_more, is_both}
-use borrow.Author.Rules.{rules}
 use Rattle.sums.proofs.parts.split.Goals as goal
 
 pub returns-then-a-b : goal.returns-then-a-b

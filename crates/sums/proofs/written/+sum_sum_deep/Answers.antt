@@ -1,13 +1,7 @@
-use Rattle.std.proofs.Common.{◌-◌, ◌≤◌, ◌≡◌, length, refl, ap, sym}
-use borrow.Author.Rules.{rules}
-use mathlib.Core.Path.{◌∙◌}
 use native.Mathlib.Omega.{arith}
-use Rattle.steps.specs.Table.{slices, rows_of}
-use Rattle.sums.specs.Inner.{depth}
 use Rattle.sums.proofs.Keeping.{kept_is, kept_nothing}
 use Rattle.sums.proofs.Remembering.{sum_left, sum_right_0, sum_same, pair_key, recalled, kept_remembered}
 use Rattle.sums.proofs.Deep.{first_asks, first_full, second_asks, second_full, make_asks, sum_made}
-use Prim.Native.Nat.{ℕ, ◌<◌, ◌*◌, ◌+◌}
 use Rattle.sums.proofs.written.+sum_sum_deep.Goals as goal
 
 pub sum-returns-then-f-eq0 : goal.sum-returns-then-f-eq0
