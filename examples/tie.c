@@ -1,8 +1,8 @@
 /*
  * tie FILE: checks the tie in an .aag file, output 0. Exit status: the verdict, 0, 1 or 2; 3 where there is none.
  *
- *     rt staticlib mg
- *     cc -std=c99 -Iinclude examples/tie.c target/staticlib/libmg.a -o tie
+ *     (cd crates/mg && rt lib)
+ *     cc -std=c99 -Iinclude examples/tie.c crates/mg/out/libmg.a -o tie
  */
 #include <stdio.h>
 

@@ -1,7 +1,7 @@
 // tie FILE: checks the tie in an .aag file, output 0. Exit status: the verdict, 0, 1 or 2; 3 where there is none.
 //
-//     rt staticlib mg
-//     rustc --edition 2021 -O examples/tie.rs -L target/staticlib -l static=mg -o tie
+//     (cd crates/mg && rt lib)
+//     rustc --edition 2021 -O examples/tie.rs -L crates/mg/out -l static=mg -o tie
 use std::process::ExitCode;
 
 // As include/mg.h declares them; a slice passes as a pointer and a length.

@@ -18,7 +18,7 @@ prints() {
 (cd tests/second && cargo build --release --offline --quiet) || failed=$((failed + 1))
 second=tests/second/target/release/second
 program=./mullagrane
-[ -x target/bin/mullagrane ] || { echo "examples: the circuit program is not built" && echo "$passed passed, $((failed + 1)) failed" && exit 1; }
+"$program" </dev/null >"$made/said" 2>&1 || { cat "$made/said" && echo "examples: the circuit program is not built" && echo "$passed passed, $((failed + 1)) failed" && exit 1; }
 
 for text in examples/*.aag; do
     out=${text%.aag}.out
@@ -122,7 +122,7 @@ library() { tests/library >"$made/said" 2>&1 || { tail -n 20 "$made/said" && fal
 what "the library is not built" library
 ties "$made/tie-c" examples/tie.c tests/build-c examples/tie.c "$made/tie-c"
 if [ "$(uname -m)" = x86_64 ]; then
-    ties "$made/tie-rs" examples/tie.rs rustc --edition 2021 -O -D warnings examples/tie.rs -L target/staticlib -l static=mg -o "$made/tie-rs"
+    ties "$made/tie-rs" examples/tie.rs rustc --edition 2021 -O -D warnings examples/tie.rs -L crates/mg/out -l static=mg -o "$made/tie-rs"
 else
     echo "examples: the library is compiled for x86-64, and rustc here is not; nothing is counted for examples/tie.rs"
 fi

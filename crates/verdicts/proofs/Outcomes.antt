@@ -114,10 +114,10 @@ unfolding column count rows_of
 front_rows none xs ys zs = refl
 front_rows (R ▹ r) xs ys zs =
     ap (λ (s : Slices). rows_of s (suc (count R)))
-      (slices_by
-        (append_snoc (column (λ r. r.var) R) r.var xs)
-        (append_snoc (column (λ r. r.then_part) R) r.then_part ys)
-        (append_snoc (column (λ r. r.else_part) R) r.else_part zs))
+    (slices_by
+    (append_snoc (column (λ r. r.var) R) r.var xs)
+    (append_snoc (column (λ r. r.then_part) R) r.then_part ys)
+    (append_snoc (column (λ r. r.else_part) R) r.else_part zs))
     ∙ front_row R r xs ys zs (front_rows R (r.var ∷ xs) (r.then_part ∷ ys) (r.else_part ∷ zs))
 
 pub laid_rows : (R : Rows) (s : Slices) → rows_of (laid R s) (count R) ≡ R

@@ -1,6 +1,4 @@
-use Rattle.std.proofs.Common.{◌+◌, ◌-◌, ◌*◌, ◌<◌, ◌≤◌, ◌≡◌, length, refl, ap, sym, ◌∙◌, arith}
 use Rattle.assignments.proofs.Values.{bit_const, bit_row}
-use borrow.Author.Rules.{rules}
 use Rattle.assignments.proofs.evaluate.bit_of.Goals as goal
 
 pub returns-then-k-lt2 : goal.returns-then-k-lt2

@@ -1,7 +1,5 @@
-use Rattle.std.proofs.Common.{◌+◌, ◌-◌, ◌*◌, ◌<◌, ◌≤◌, ◌≡◌, length, refl, ap, sym, ◌∙◌}
 use native.Mathlib.Omega.{arith}
 use Rattle.assignments.proofs.Values.{row_stands, var_in, then_in, else_in, without, with_same, with_apart}
-use borrow.Author.Rules.{rules}
 use Rattle.assignments.proofs.evaluate.row_value.Goals as goal
 
 pub node_at-x-requires : goal.node_at-x-requires

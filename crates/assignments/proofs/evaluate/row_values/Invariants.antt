@@ -1,10 +1,6 @@
-use Rattle.std.proofs.Common.{◌+◌, ◌*◌, ◌<◌, ◌≡◌, length, refl, ap}
 use Prim.Native.Nat.{◌≤◌, ◌-◌}
-use mathlib.Core.Path.{sym, ◌∙◌}
-use native.Mathlib.Omega.{arith}
 use Rattle.steps.specs.Table.{slices}
 use Rattle.assignments.specs.Inner.{Evaluated}
-use Rattle.assignments.proofs.Values.{evaluated_next, evaluated_upto}
 use Rattle.assignments.proofs.evaluate.row_values.Given as goal
 
 abbrev pub invariant-loop-i : goal.invariant-loop-i

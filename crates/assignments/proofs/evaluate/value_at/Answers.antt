@@ -1,7 +1,5 @@
-use Rattle.std.proofs.Common.{◌+◌, ◌-◌, ◌*◌, ◌<◌, ◌≤◌, ◌≡◌, length, ap, sym, ◌∙◌, arith}
 use mathlib.Core.Path.{refl}
 use Rattle.assignments.proofs.Values.{value_const, value_read}
-use borrow.Author.Rules.{rules}
 use Rattle.assignments.proofs.evaluate.value_at.Goals as goal
 
 pub returns-then-f-lt2 : goal.returns-then-f-lt2

@@ -1,8 +1,5 @@
-use Rattle.std.proofs.Common.{◌+◌, ◌-◌, ◌*◌, ◌<◌, ◌≤◌, ◌≡◌, length, refl, ap, sym, ◌∙◌}
 use native.Mathlib.Omega.{arith}
-use borrow.Author.Rules.{rules}
-use Rattle.steps.specs.Table.{slices}
-use Rattle.assignments.proofs.Ones.{Following, following_start, follow_stands, follow_var, follow_then_less, follow_else_less, follow_then, follow_else, follow_end}
+use Rattle.assignments.proofs.Ones.{following_start, follow_stands, follow_var, follow_then_less, follow_else_less, follow_then, follow_else, follow_end}
 use Rattle.assignments.proofs.seek.follow.Goals as goal
 
 pub loop-k-init : goal.loop-k-init

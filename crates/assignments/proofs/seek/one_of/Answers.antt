@@ -1,6 +1,4 @@
-use Rattle.std.proofs.Common.{◌+◌, ◌-◌, ◌*◌, ◌<◌, ◌≤◌, ◌≡◌, length, refl, ap, sym, ◌∙◌, arith}
 use Rattle.assignments.proofs.Ones.{lasting_zeros, zeros_again, found_in}
-use borrow.Author.Rules.{rules}
 use Rattle.assignments.proofs.seek.one_of.Goals as goal
 
 pub follow-requires : goal.follow-requires

@@ -1,9 +1,6 @@
-use Rattle.std.proofs.Common.{◌+◌, ◌-◌, ◌*◌, ◌<◌, ◌≤◌, ◌≡◌, length, refl, ap, sym, ◌∙◌}
-use borrow.Author.Rules.{rules}
 use native.Mathlib.Omega.{arith}
-use Rattle.steps.specs.Table.{slices}
 use Rattle.sums.proofs.Keeping.{kept_is}
-use Rattle.gates.proofs.Looping.{LeftOf, build_starts, gate_asks, gate_full, gate_next, build_ends}
+use Rattle.gates.proofs.Looping.{build_starts, gate_asks, gate_full, gate_next, build_ends}
 use Rattle.gates.proofs.system.build.Goals as goal
 
 pub loop-rest-init : goal.loop-rest-init

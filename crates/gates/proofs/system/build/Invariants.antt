@@ -1,9 +1,5 @@
-use Rattle.std.proofs.Common.{◌+◌, ◌-◌, ◌*◌, ◌<◌, ◌≤◌, ◌≡◌, length, refl, ap, sym, ◌∙◌}
-use borrow.Author.Rules.{rules}
-use native.Mathlib.Omega.{arith}
 use Rattle.steps.specs.Table.{slices}
-use Rattle.sums.proofs.Keeping.{kept_is}
-use Rattle.gates.proofs.Looping.{LeftOf, build_starts, gate_asks, gate_full, gate_next, build_ends}
+use Rattle.gates.proofs.Looping.{LeftOf}
 use Rattle.gates.proofs.system.build.Given as goal
 
 abbrev pub invariant-loop-rest : goal.invariant-loop-rest

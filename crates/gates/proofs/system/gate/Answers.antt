@@ -1,8 +1,5 @@
-use Rattle.std.proofs.Common.{◌+◌, ◌-◌, ◌*◌, ◌<◌, ◌≤◌, ◌≡◌, length, refl, ap, sym, arith}
-use mathlib.Core.Path.{◌∙◌}
 use Rattle.sums.proofs.Keeping.{kept_is}
 use Rattle.gates.proofs.Joining.{first_asks, first_full, second_asks, second_full, third_asks, gate_done}
-use borrow.Author.Rules.{rules}
 use Rattle.gates.proofs.system.gate.Goals as goal
 
 pub literal-requires : goal.literal-requires

@@ -1,7 +1,5 @@
-use Rattle.std.proofs.Common.{◌+◌, ◌-◌, ◌*◌, ◌<◌, ◌≤◌, ◌≡◌, length, refl, ap, sym, ◌∙◌, arith}
 use Rattle.sums.proofs.Keeping.{kept_is}
 use Rattle.gates.proofs.Joining.{joined_full, equation_asks, joined_made}
-use borrow.Author.Rules.{rules}
 use Rattle.gates.proofs.system.joined.Goals as goal
 
 pub returns-in_default : goal.returns-in_default

@@ -1,6 +1,4 @@
-use Rattle.std.proofs.Common.{◌+◌, ◌-◌, ◌*◌, ◌<◌, ◌≤◌, ◌≡◌, length, refl, ap, sym, ◌∙◌, arith}
 use Rattle.gates.proofs.Joining.{literal_constant, literal_made}
-use borrow.Author.Rules.{rules}
 use Rattle.gates.proofs.system.literal.Goals as goal
 
 pub returns-then-l-lt2 : goal.returns-then-l-lt2
