@@ -10,7 +10,7 @@ use lib.Seq.{get_or-take, length-take-le}
 use borrow.Author.Tests.{eqb-true, eqb-false, leb-true, le-leb, lt-leb, eq-eqb, ne_eqb}
 use Rattle.steps.specs.One.{one}
 use Rattle.steps.specs.Sound.{sound}
-use Rattle.steps.specs.Table.{Slices, slices, rows_of, most_rows}
+use Rattle.steps.specs.Table.{Slices, rows_of, most_rows}
 use Rattle.table.specs.declared.Row.{Row}
 use Rattle.checks.specs.declared.check.Table.{Table}
 use Rattle.checks.specs.declared.check.Table.TheVariants.{Fine, OutOfRange, Unsound}

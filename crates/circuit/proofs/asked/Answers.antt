@@ -1,7 +1,5 @@
-use Rattle.std.proofs.Common.{◌+◌, ◌-◌, ◌*◌, ◌<◌, ◌≤◌, ◌≡◌, length, refl, ap, sym, ◌∙◌}
 use native.Mathlib.Omega.{arith}
 use Rattle.circuit.proofs.Verdicts.{no_output, no_pattern, asked_done}
-use borrow.Author.Rules.{rules}
 use Rattle.circuit.proofs.asked.Goals as goal
 
 pub returns-then-h-o : goal.returns-then-h-o

@@ -1,9 +1,6 @@
-use Rattle.std.proofs.Common.{◌+◌, ◌-◌, ◌*◌, ◌<◌, ◌≤◌, ◌≡◌, length, refl, ap, sym}
 use mathlib.Core.Path.{◌∙◌}
 use native.Mathlib.Omega.{arith}
-use borrow.Author.Tests.{not-true, not-false}
 use Rattle.circuit.proofs.Verdicts.{lengths_refused, net_asks, read_done, text_refused}
-use borrow.Author.Rules.{rules}
 use Rattle.circuit.proofs.circuit_read.Goals as goal
 
 pub returns-then-not-lengths_fine : goal.returns-then-not-lengths_fine

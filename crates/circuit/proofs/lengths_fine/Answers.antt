@@ -1,4 +1,3 @@
-use Rattle.std.proofs.Common.{◌+◌, ◌-◌, ◌*◌, ◌<◌, ◌≤◌, ◌≡◌, length, refl, ap, sym, ◌∙◌, arith}
 use Rattle.circuit.proofs.Verdicts.{too_many_rows, thens_differ, elses_tell}
 use Rattle.circuit.proofs.lengths_fine.Goals as goal
 

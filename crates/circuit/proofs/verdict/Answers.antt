@@ -1,6 +1,4 @@
-use Rattle.std.proofs.Common.{◌+◌, ◌-◌, ◌*◌, ◌<◌, ◌≤◌, ◌≡◌, length, refl, ap, sym, ◌∙◌, arith}
 use Rattle.circuit.proofs.Verdicts.{never_out_of_range, never_unsound, ready_asks}
-use borrow.Author.Rules.{rules}
 use Rattle.circuit.proofs.verdict.Goals as goal
 
 pub verdict_ready-requires : goal.verdict_ready-requires

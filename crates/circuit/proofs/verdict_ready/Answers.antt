@@ -1,7 +1,5 @@
-use Rattle.std.proofs.Common.{◌+◌, ◌-◌, ◌*◌, ◌<◌, ◌≤◌, ◌≡◌, length, ap, sym, ◌∙◌, arith}
 use mathlib.Core.Path.{refl}
 use Rattle.circuit.proofs.Verdicts.{output_there, output_asks, end_asks, ready_done}
-use borrow.Author.Rules.{rules}
 use Rattle.circuit.proofs.verdict_ready.Goals as goal
 
 pub bounds-outs-o : goal.bounds-outs-o

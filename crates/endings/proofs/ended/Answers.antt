@@ -1,6 +1,4 @@
-use Rattle.std.proofs.Common.{◌+◌, ◌-◌, ◌*◌, ◌<◌, ◌≤◌, ◌≡◌, length, refl, ap, sym, ◌∙◌, arith}
 use Rattle.endings.proofs.Ends.{ends_without_room, ends_never, ends_can, pattern_asks}
-use borrow.Author.Rules.{rules}
 use Rattle.endings.proofs.ended.Goals as goal
 
 pub returns-in_default : goal.returns-in_default

@@ -1,6 +1,4 @@
-use Rattle.std.proofs.Common.{◌+◌, ◌-◌, ◌*◌, ◌<◌, ◌≤◌, ◌≡◌, length, refl, ap, sym, ◌∙◌}
 use native.Mathlib.Omega.{arith}
-use borrow.Author.Rules.{rules}
 use Rattle.table.proofs.Takes.{taken_lends}
 use Rattle.normal.proofs.CallLaws.{number_out, system_out, system_0, lead_out, system_behind, tail_behind, equation_done}
 use Rattle.normal.proofs.equation_ready.Goals as goal

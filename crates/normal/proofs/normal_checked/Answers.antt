@@ -1,5 +1,3 @@
-use Rattle.std.proofs.Common.{◌+◌, ◌-◌, ◌*◌, ◌<◌, ◌≤◌, ◌≡◌, length, refl, ap, sym, ◌∙◌, arith}
-use borrow.Author.Rules.{rules}
 use Rattle.checks.proofs.Endings.{fine_live}
 use Rattle.checks.proofs.CallEnds.{fine_vars}
 use Rattle.normal.proofs.CallLaws.{normal_range, normal_unsound, normal_fine}

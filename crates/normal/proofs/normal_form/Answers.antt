@@ -1,5 +1,3 @@
-use Rattle.std.proofs.Common.{◌+◌, ◌-◌, ◌*◌, ◌<◌, ◌≤◌, ◌≡◌, length, refl, ap, sym, ◌∙◌, arith}
-use borrow.Author.Rules.{rules}
 use Rattle.checks.proofs.Endings.{zeros_left}
 use Rattle.normal.proofs.normal_form.Goals as goal
 

@@ -1,6 +1,4 @@
-use Rattle.std.proofs.Common.{◌+◌, ◌-◌, ◌*◌, ◌<◌, ◌≤◌, ◌≡◌, length, refl, ap, sym, ◌∙◌}
 use native.Mathlib.Omega.{arith}
-use borrow.Author.Rules.{rules}
 use Rattle.table.proofs.Takes.{taken_lends}
 use Rattle.normal.proofs.CallLaws.{number_out, system_out, system_0, normal_done}
 use Rattle.normal.proofs.normal_ready.Goals as goal

@@ -1,10 +1,4 @@
-use Rattle.std.proofs.Common.{◌+◌, ◌*◌, ◌<◌, ◌≤◌, ap, sym}
-use Prim.Native.Nat.{◌-◌}
-use mathlib.Core.Path.{◌≡◌, refl, ◌∙◌}
-use native.Mathlib.Omega.{arith}
-use borrow.Author.Rules.{rules}
-use lib.ListN.{length, drop}
-use Rattle.numbers.specs.Calls.{all_bits}
+use mathlib.Core.Path.{◌∙◌}
 use Rattle.numbers.proofs.Exits.{bits_stop, bits_on, bits_end}
 use Rattle.numbers.proofs.all_bits.Goals as goal
 

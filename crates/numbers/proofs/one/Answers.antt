@@ -1,7 +1,5 @@
-use Rattle.std.proofs.Common.{◌+◌, ◌-◌, ◌*◌, ◌<◌, ◌≤◌, ◌≡◌, length, refl, ap, sym, ◌∙◌, arith}
 use Rattle.checks.proofs.Endings.{zeros_left}
 use Rattle.numbers.proofs.Meanings.{one_call_means}
-use borrow.Author.Rules.{rules}
 use Rattle.numbers.proofs.one.Goals as goal
 
 pub returns : goal.returns

@@ -1,7 +1,5 @@
-use Rattle.std.proofs.Common.{◌+◌, ◌-◌, ◌*◌, ◌<◌, ◌≤◌, ◌≡◌, length, refl, ap, sym, ◌∙◌, arith}
 use Rattle.checks.proofs.Endings.{fine_live}
 use Rattle.numbers.proofs.Exits.{one_length, one_range, one_unsound, one_fine, live_lasts}
-use borrow.Author.Rules.{rules}
 use Rattle.numbers.proofs.one_checked.Goals as goal
 
 pub returns-then-bytes-n : goal.returns-then-bytes-n

@@ -1,6 +1,4 @@
-use Rattle.std.proofs.Common.{◌+◌, ◌-◌, ◌*◌, ◌<◌, ◌≤◌, ◌≡◌, length, refl, ap, sym, ◌∙◌, arith}
 use Rattle.numbers.proofs.Exits.{one_out, one_zero, one_found}
-use borrow.Author.Rules.{rules}
 use Rattle.numbers.proofs.one_ready.Goals as goal
 
 pub returns-then-count-f : goal.returns-then-count-f

@@ -1,8 +1,5 @@
-use Rattle.std.proofs.Common.{◌+◌, ◌-◌, ◌*◌, ◌<◌, ◌≤◌, ◌≡◌, length, refl, ap, sym, arith}
 use mathlib.Core.Path.{◌∙◌}
-use borrow.Author.Tests.{not-true, not-false}
 use Rattle.numbers.proofs.Exits.{value_out, value_bits, value_is}
-use borrow.Author.Rules.{rules}
 use Rattle.numbers.proofs.value_ready.Goals as goal
 
 pub returns-then-count-f : goal.returns-then-count-f

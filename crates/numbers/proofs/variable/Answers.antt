@@ -1,6 +1,4 @@
-use Rattle.std.proofs.Common.{◌+◌, ◌-◌, ◌*◌, ◌<◌, ◌≤◌, ◌≡◌, length, refl, ap, sym, ◌∙◌, arith}
 use Rattle.checks.proofs.Endings.{zeros_left}
-use borrow.Author.Rules.{rules}
 use Rattle.numbers.proofs.variable.Goals as goal
 
 pub returns : goal.returns

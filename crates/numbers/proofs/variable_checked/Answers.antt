@@ -1,7 +1,5 @@
-use Rattle.std.proofs.Common.{◌+◌, ◌-◌, ◌*◌, ◌<◌, ◌≤◌, ◌≡◌, length, refl, ap, sym, ◌∙◌, arith}
 use Rattle.checks.proofs.Endings.{call_range, call_unsound, call_fine, fine_live}
 use Rattle.numbers.proofs.Exits.{variable_is}
-use borrow.Author.Rules.{rules}
 use Rattle.numbers.proofs.variable_checked.Goals as goal
 
 pub variable_ready-requires : goal.variable_ready-requires

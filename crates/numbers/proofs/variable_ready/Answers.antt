@@ -1,9 +1,7 @@
-use Rattle.std.proofs.Common.{◌+◌, ◌-◌, ◌*◌, ◌<◌, ◌≤◌, ◌≡◌, length, refl, ap, sym, arith}
 use mathlib.Core.Path.{◌∙◌}
 use borrow.Author.Tests.{lt-ltb, le-ltb}
 use Rattle.table.proofs.Ends.{taken_ends}
 use Rattle.table.proofs.Takes.{taken_lends}
-use borrow.Author.Rules.{rules}
 use Rattle.numbers.proofs.variable_ready.Goals as goal
 
 pub returns-then-n-v : goal.returns-then-n-v

@@ -1,6 +1,4 @@
-use Rattle.std.proofs.Common.{◌+◌, ◌-◌, ◌*◌, ◌<◌, ◌≤◌, ◌≡◌, length, ap, sym, ◌∙◌, arith}
 use mathlib.Core.Path.{refl}
-use borrow.Author.Rules.{rules}
 use Rattle.checks.proofs.Endings.{fine_live}
 use Rattle.outputs.proofs.Judging.{not_out_of_range, not_unsound, judge_few, judge_lent, judge_sound, output_there, from_asked, judged_as}
 use Rattle.outputs.proofs.judge.Goals as goal

@@ -1,6 +1,3 @@
-use Rattle.std.proofs.Common.{◌+◌, ◌-◌, ◌*◌, ◌<◌, ◌≤◌, ◌≡◌, length, refl, ap, sym, arith}
-use mathlib.Core.Path.{◌∙◌}
-use borrow.Author.Rules.{rules}
 use Rattle.sums.proofs.Keeping.{kept_is}
 use Rattle.outputs.proofs.Endings.{took_is, from_asks, from_full, reduce_asks, reduce_full, never_done, can_done, pattern_asks}
 use Rattle.outputs.proofs.judge_from.Goals as goal

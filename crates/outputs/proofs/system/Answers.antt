@@ -1,5 +1,3 @@
-use Rattle.std.proofs.Common.{◌+◌, ◌-◌, ◌*◌, ◌<◌, ◌≤◌, ◌≡◌, length, refl, ap, sym, ◌∙◌, arith}
-use borrow.Author.Rules.{rules}
 use Rattle.checks.proofs.Endings.{fine_live}
 use Rattle.outputs.proofs.Judging.{vars_few, empty_sound, not_out_of_range, not_unsound}
 use Rattle.outputs.proofs.system.Goals as goal

@@ -1,5 +1,3 @@
-use Rattle.std.proofs.Common.{◌+◌, ◌-◌, ◌*◌, ◌<◌, ◌≤◌, ◌≡◌, length, refl, ap, sym, ◌∙◌, arith}
-use borrow.Author.Rules.{rules}
 use Rattle.outputs.proofs.Judging.{build_asks, builds}
 use Rattle.outputs.proofs.system_ready.Goals as goal
 

@@ -1,9 +1,7 @@
-use Rattle.std.proofs.Common.{◌+◌, ◌-◌, ◌*◌, ◌<◌, ◌≤◌, ◌≡◌, length, refl, ap, sym, ◌∙◌, arith}
 use Rattle.pairs.specs.Calls.{op_of}
 use Rattle.pairs.proofs.PairCalls.{pair_range, pair_unsound, pair_fine}
 use Rattle.checks.proofs.Endings.{fine_live}
 use Rattle.checks.proofs.CallEnds.{fine_vars}
-use borrow.Author.Rules.{rules}
 use Rattle.pairs.proofs.pair_checked.Goals as goal
 
 pub pair_ready-requires : goal.pair_ready-requires

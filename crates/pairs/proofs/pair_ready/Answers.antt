@@ -1,9 +1,7 @@
-use Rattle.std.proofs.Common.{◌+◌, ◌-◌, ◌*◌, ◌<◌, ◌≤◌, ◌≡◌, length, refl, ap, sym, ◌∙◌}
 use Rattle.pairs.specs.Calls.{steps_of, op_of}
 use native.Mathlib.Omega.{arith}
 use Rattle.table.proofs.Takes.{taken_lends}
 use Rattle.pairs.proofs.PairCalls.{left_out, right_out, pair_done, operation_law}
-use borrow.Author.Rules.{rules}
 use Rattle.pairs.proofs.pair_ready.Goals as goal
 
 pub returns-then-count-f : goal.returns-then-count-f

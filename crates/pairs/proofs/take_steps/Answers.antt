@@ -1,7 +1,5 @@
-use Rattle.std.proofs.Common.{◌+◌, ◌-◌, ◌*◌, ◌<◌, ◌≤◌, ◌≡◌, length, refl, ap, sym, ◌∙◌, arith}
 use Rattle.pairs.specs.declared.Operation.TheVariants.{Sum, Product}
 use Rattle.pairs.proofs.PairCalls.{kept_as}
-use borrow.Author.Rules.{rules}
 use Rattle.pairs.proofs.take_steps.Goals as goal
 
 pub returns-in-Sum : goal.returns-in-Sum

@@ -1,6 +1,4 @@
-use Rattle.std.proofs.Common.{◌+◌, ◌-◌, ◌*◌, ◌<◌, ◌≤◌, ◌≡◌, length, refl, ap, sym, ◌∙◌, arith}
 use Rattle.printing.proofs.Verdicts.{judge_asks, prints_judged, prints_full}
-use borrow.Author.Rules.{rules}
 use Rattle.printing.proofs.print.Goals as goal
 
 pub judge-r-requires : goal.judge-r-requires

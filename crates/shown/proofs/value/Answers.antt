@@ -1,6 +1,4 @@
-use Rattle.std.proofs.Common.{◌+◌, ◌-◌, ◌*◌, ◌<◌, ◌≤◌, ◌≡◌, length, refl, ap, sym, ◌∙◌, arith}
 use Rattle.shown.proofs.Shown.{value_shown}
-use borrow.Author.Rules.{rules}
 use Rattle.shown.proofs.value.Goals as goal
 
 pub returns-in-Value : goal.returns-in-Value

@@ -1,8 +1,5 @@
-use Rattle.std.proofs.Common.{◌+◌, ◌-◌, ◌*◌, ◌<◌, ◌≤◌, ◌≡◌, length, refl, ap, sym, arith}
-use mathlib.Core.Path.{◌∙◌}
 use Rattle.sums.proofs.Keeping.{kept_is}
 use Rattle.circuit.proofs.Outputs.{system_full, literal_asks, literal_full, reduce_asks, output_took}
-use borrow.Author.Rules.{rules}
 use Rattle.circuit.proofs.output.output.Goals as goal
 
 pub returns-in_default : goal.returns-in_default

@@ -1,10 +1,6 @@
-use Rattle.std.proofs.Common.{◌+◌, ◌*◌, ◌<◌, ◌≤◌, ◌≡◌, ap, sym, ◌∙◌}
 use Prim.Native.Nat.{◌-◌}
-use mathlib.Core.Path.{refl}
-use borrow.Author.Rules.{rules}
-use native.Mathlib.Omega.{arith}
 use lib.ListN.{length}
-use Rattle.endings.proofs.Patterns.{Written, one_asks, written_start, written_next, written_end}
+use Rattle.endings.proofs.Patterns.{Written}
 use Rattle.endings.proofs.pattern.write_pattern.Given as goal
 
 abbrev pub invariant-loop-i : goal.invariant-loop-i

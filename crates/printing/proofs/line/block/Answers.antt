@@ -1,8 +1,6 @@
-use Rattle.std.proofs.Common.{◌+◌, ◌-◌, ◌*◌, ◌<◌, ◌≤◌, ◌≡◌, length, refl, ap, sym, ◌∙◌}
 use native.Mathlib.Omega.{arith}
 use Rattle.printing.proofs.Puts.{put_nothing}
 use Rattle.printing.proofs.Verdicts.{as_judged}
-use borrow.Author.Rules.{rules}
 use Rattle.printing.proofs.line.block.Goals as goal
 
 pub returns-in-Never : goal.returns-in-Never

@@ -1,6 +1,4 @@
-use Rattle.std.proofs.Common.{◌+◌, ◌-◌, ◌*◌, ◌<◌, ◌≤◌, ◌≡◌, length, refl, ap, sym, ◌∙◌, arith}
 use Rattle.printing.proofs.Puts.{digit_one}
-use borrow.Author.Rules.{rules}
 use Rattle.printing.proofs.line.digit.Goals as goal
 
 pub returns : goal.returns

@@ -1,9 +1,4 @@
-use Rattle.std.proofs.Common.{◌+◌, ◌*◌, ◌<◌, ◌≡◌, refl, ap, sym, ◌∙◌}
-use Prim.Native.Nat.{◌-◌, ◌≤◌}
-use borrow.Author.Rules.{rules}
-use lib.ListN.{length, take}
 use native.Mathlib.Omega.{arith}
-use Rattle.printing.specs.Inner.{Put}
 use Rattle.printing.proofs.Puts.{put_nothing, bytes_next, bytes_end, bytes_all}
 use Rattle.printing.proofs.line.put_all.Goals as goal
 

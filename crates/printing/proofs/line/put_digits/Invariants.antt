@@ -1,12 +1,8 @@
-use Rattle.std.proofs.Common.{◌+◌, ◌*◌, ◌<◌, ◌≡◌, refl, ap, sym, ◌∙◌}
 use Prim.Native.Nat.{◌-◌, ◌≤◌}
 use mathlib.Core.List.{map}
-use borrow.Author.Rules.{rules}
 use lib.ListN.{length, take}
-use native.Mathlib.Omega.{arith}
 use Rattle.printing.specs.Text.{digit}
 use Rattle.printing.specs.Inner.{Put}
-use Rattle.printing.proofs.Puts.{put_nothing, digits_next, digits_ends, digits_all}
 use Rattle.printing.proofs.line.put_digits.Given as goal
 
 abbrev pub invariant-loop-i : goal.invariant-loop-i

@@ -1,7 +1,5 @@
-use Rattle.std.proofs.Common.{◌+◌, ◌-◌, ◌*◌, ◌<◌, ◌≤◌, ◌≡◌, length, refl, ap, sym, ◌∙◌}
 use native.Mathlib.Omega.{arith}
 use Rattle.printing.proofs.Puts.{put_then, heading_fits, digits_end}
-use borrow.Author.Rules.{rules}
 use Rattle.printing.proofs.line.put_one.Goals as goal
 
 pub put-b-requires : goal.put-b-requires

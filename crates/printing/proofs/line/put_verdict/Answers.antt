@@ -1,7 +1,5 @@
-use Rattle.std.proofs.Common.{◌+◌, ◌-◌, ◌*◌, ◌<◌, ◌≤◌, ◌≡◌, length, refl, ap, sym, ◌∙◌}
 use native.Mathlib.Omega.{arith}
 use Rattle.printing.proofs.Puts.{put_then, heading_fits}
-use borrow.Author.Rules.{rules}
 use Rattle.printing.proofs.line.put_verdict.Goals as goal
 
 pub put_dot-requires : goal.put_dot-requires

@@ -1,7 +1,5 @@
-use Rattle.std.proofs.Common.{◌+◌, ◌-◌, ◌*◌, ◌<◌, ◌≤◌, ◌≡◌, length, refl, ap, sym, ◌∙◌}
 use native.Mathlib.Omega.{arith}
 use Rattle.printing.proofs.Puts.{put_then, decimal_fits}
-use borrow.Author.Rules.{rules}
 use Rattle.printing.proofs.line.refused.Goals as goal
 
 pub put-requires : goal.put-requires
