@@ -184,7 +184,7 @@ def operations(found):
 
 
 def text(rows, about, found, options):
-    own = "the circuit program `target/bin/mullagrane`, and in one process the library `libmg.a`, with a table of 4,096 rows."
+    own = "the circuit program `crates/mullagrane/out/mullagrane`, and in one process the library `libmg.a`, with a table of 4,096 rows."
     if not options.native:
         own = (
             "the library, compiled for this processor from the module that was proved (`bench/native-lib`), with a table of 4,096 rows. The circuit "

@@ -109,6 +109,7 @@ pub fn equation(
     r
 }
 
+#[tactic(auto, using(crate::proofs::CallLaws::system_0))]
 fn normal_ready(
     n: usize,
     vs: &mut [u16],

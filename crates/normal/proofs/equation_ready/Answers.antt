@@ -1,3 +1,4 @@
+use Rattle.std.proofs.Common.{rules, ◌≡◌}
 use native.Mathlib.Omega.{arith}
 use Rattle.table.proofs.Takes.{taken_lends}
 use Rattle.normal.proofs.CallLaws.{number_out, system_out, system_0, lead_out, system_behind, tail_behind, equation_done}
@@ -13,7 +14,9 @@ pub returns-then-system-eq0 : goal.returns-then-system-eq0
 returns-then-system-eq0 c = system_0 _ _ _ _ _ _ c.if-count-tail.false c.if-count-system.false c.if-system-eq0.true
 
 pub returns-then-n-lead : goal.returns-then-n-lead
-returns-then-n-lead c = lead_out _ _ _ _ _ _ c.if-count-tail.false c.if-count-system.false c.if-system-eq0.false c.if-n-lead.true
+returns-then-n-lead c =
+    let not_0 : c.args.system.0 ≡ 0 → ⊥ = search rules in
+    lead_out _ _ _ _ _ _ c.if-count-tail.false c.if-count-system.false not_0 c.if-n-lead.true
 
 pub overflow_cast-n : goal.overflow_cast-n
 overflow_cast-n c = omega (arith, c.requires.1)
