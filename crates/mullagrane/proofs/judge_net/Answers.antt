@@ -1,6 +1,4 @@
-use Rattle.std.proofs.Common.{◌+◌, ◌-◌, ◌*◌, ◌<◌, ◌≤◌, ◌≡◌, length, ap, ◌∙◌, arith}
 use mathlib.Core.Path.{refl, sym}
-use borrow.Author.Rules.{rules}
 use Rattle.mullagrane.proofs.Parts.{counted, inputs_fit, table_fresh, read_asks, made_ready}
 use Rattle.mullagrane.proofs.judge_net.Goals as goal
 

@@ -1,6 +1,4 @@
-use Rattle.std.proofs.Common.{◌+◌, ◌-◌, ◌*◌, ◌<◌, ◌≤◌, ◌≡◌, length, refl, ap, sym, ◌∙◌}
 use native.Mathlib.Omega.{arith}
-use borrow.Author.Rules.{rules}
 use Rattle.aiger.proofs.WholeNet.{lent_fresh}
 use Rattle.mullagrane.proofs.Parts.{read_whole}
 use Rattle.mullagrane.proofs.judge_text.Goals as goal

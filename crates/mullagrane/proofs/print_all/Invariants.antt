@@ -1,13 +1,9 @@
-use Rattle.std.proofs.Common.{◌+◌, ◌*◌, ◌<◌, ◌≤◌, ap, sym}
 use Prim.Native.Nat.{◌-◌}
-use mathlib.Core.Path.{◌≡◌, refl, ◌∙◌}
+use mathlib.Core.Path.{◌≡◌}
 use lib.ListN.{length}
-use native.Mathlib.Omega.{arith}
-use borrow.Author.Rules.{rules}
 use Rattle.steps.specs.Table.{slices}
 use Rattle.aiger.specs.Answers as net
 use Rattle.mullagrane.specs.Inner.{Ready}
-use Rattle.mullagrane.proofs.Parts.{counted, print_asks, still_ready}
 use Rattle.mullagrane.proofs.print_all.Given as goal
 
 abbrev pub invariant-loop-o : goal.invariant-loop-o

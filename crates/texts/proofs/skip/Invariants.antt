@@ -1,4 +1,3 @@
-use Rattle.std.proofs.Common.{◌-◌}
 use Rattle.texts.proofs.skip.Given as goal
 
 abbrev pub decreases-loop-left : goal.decreases-loop-left
