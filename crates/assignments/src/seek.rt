@@ -1,4 +1,4 @@
-// For the crates above: finding a one. At each row the else_part is followed unless it is 0.
+// For the crates above: finding a one. At each row the else-part is followed unless it is 0.
 ghost use Rattle.std.specs.Prelude.{◌≡◌, ◌+◌, ◌<◌, length, replicate};
 ghost use Rattle.steps.specs.One.{one};
 ghost use Rattle.steps.specs.Table.{slices, rows_of};

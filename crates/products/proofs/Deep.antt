@@ -49,7 +49,7 @@ module _ (N c : ℕ) (s : Slices) (work : List ℕ) (x y z : ℕ) (d : Three N c
     pub three_done : {r : Made} {s₂ : Slices} {work₂ : List ℕ} → Kept N (sum N t.0 z) r n s₁ s₂ work₁ work₂ → Kept N (three_steps N x y z) r c s s₂ work work₂
     three_done l = kept_then (λ k. sum N k z) keeps_plus k l
 
--- the rest of the then_part
+-- the rest of the then-part
 module _ (N c : ℕ) (s : Slices) (work : List ℕ) (a ft gt ge : ℕ) (d : Quad N c s work ft a gt ge) where
   keeps_third : (b z : ℕ) → Keeps (three_steps N a b z)
   keeps_third b z = keeps_bind (sum N a b) (λ k. sum N k z) (keeps_sums N (suc N) a b) (λ k. keeps_sums N (suc N) k z)
@@ -95,7 +95,7 @@ module _ (N c : ℕ) (s : Slices) (work : List ℕ) (a ft gt ge : ℕ) (d : Quad
 less_deep : (N k m t : ℕ) → k ≤ m → 4 * (N - k) + 3 ≡ t → 4 * (N - m) + 2 < t
 less_deep N k m t h e = omega arith
 
--- the then_part
+-- the then-part
 module _ (N c : ℕ) (s : Slices) (work : List ℕ) (ft fe gt ge : ℕ) (d : Quad N c s work ft fe gt ge) where
   keeps_rest : (a : ℕ) → Keeps (rest_steps N a ft gt ge)
   keeps_rest a = keeps_bind (product N ft gt) (λ b. product N ft ge >>= λ z. three_steps N a b z) (keeps_products N (suc N) ft gt) (λ b.

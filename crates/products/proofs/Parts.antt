@@ -32,7 +32,7 @@ module _ (N : ℕ) (R : Rows) (f g : ℕ) where
   pub product_same : f ≡ g → product N f g R ≡ answer f R
   product_same e = rw e (products_same N N g R)
 
--- where the then_part of one operand is 0, the other's is multiplied and nothing is summed
+-- where the then-part of one operand is 0, the other's is multiplied and nothing is summed
 module _ (N : ℕ) (R : Rows) (ft fe gt ge : ℕ) where
   pub then_second : gt ≡ 0 → then_steps N ft fe gt ge R ≡ product N ft ge R
   then_second e = rw e (simp (products_right_0, sums_left_0))

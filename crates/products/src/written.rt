@@ -76,7 +76,7 @@ pub fn product(
     Made::At(k, c)
 }
 
-// The same where no constant is among the numbers and they are not equal: then_part, else_part, make.
+// The same where no constant is among the numbers and they are not equal: then-part, else-part, make.
 #[cycle(product_product_deep_then_part_then_rest)]
 fn product_deep(
     vs: &mut [u16],
@@ -108,7 +108,7 @@ fn product_deep(
     make(vs, ts, es, work, c2, Node { v, t, e })
 }
 
-// The then_part: else(f)·then(g), then(f)·then(g), then(f)·else(g), and their sums. Where one then_part is 0, so are two of the products.
+// The then-part: else(f)·then(g), then(f)·then(g), then(f)·else(g), and their sums. Where one then-part is 0, so are two of the products.
 #[cycle(product_product_deep_then_part_then_rest)]
 fn then_part(
     vs: &mut [u16],
@@ -138,7 +138,7 @@ fn then_part(
     then_rest(vs, ts, es, work, n, c1, a, ft, gt, ge)
 }
 
-// The rest of the then_part, after its first product.
+// The rest of the then-part, after its first product.
 #[cycle(product_product_deep_then_part_then_rest)]
 fn then_rest(
     vs: &mut [u16],

@@ -154,7 +154,7 @@ fn normal_meet(
     meet_rest(vs, ts, es, work, n, c2, a, b, x, others)
 }
 
-// After a and b: the else_part of x by the other equations f, a·b, and that plus it.
+// After a and b: the else-part of x by the other equations f, a·b, and that plus it.
 #[cycle(meet_rest_normal_below_normal_deep_normal_form_normal_meet)]
 fn meet_rest(
     vs: &mut [u16],

@@ -24,7 +24,7 @@ xor_cancel false true true e = cc
 xor_cancel false true false e = cc
 
 module _ (N : ℕ) where
-  -- the else_part is the value at 0, and the then_part what the value at 1 adds
+  -- the else-part is the value at 0, and the then-part what the value at 1 adds
   pub value_lo : (R : Rows) → Sound N R → (v k h l : ℕ) → Cut N R v k h l → (a : Assignment) → value (put a v false) R k ≡ value a R l
   value_lo R s v k h l c a = rw (c.splits (put a v false), put_same a v false, value_put N R s l c.else_used a v false c.else_above) (xor_false (value a R l))
 

@@ -147,7 +147,7 @@ module _ (N : ℕ) where
       go ih (older w) z = λ a va i agree o. ih k w a (rw (value_older a R r k w) at va) i (λ j h. agree j h ∙ rw (one_older R r k w)) (rw (one_older R r k w) at o)
 
 module _ (N : ℕ) where
-  -- a row's one goes by its else_part
+  -- a row's one goes by its else-part
   pub one_row : (R : Rows) → Sound N R → (k : ℕ) → k < next R → 2 ≤ k
       → ((row N R k).else_part ≡ 0 → one R k ≡ put (one R (row N R k).then_part) (row N R k).var true) × (((row N R k).else_part ≡ 0 → ⊥) → one R k ≡ one R (row N R k).else_part)
   unfolding Sound next

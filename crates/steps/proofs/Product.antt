@@ -71,7 +71,7 @@ module _ (N : ℕ) where
       products,
     )
 
-  -- the step in one form, where the then_part of an absent variable is 0
+  -- the step in one form, where the then-part of an absent variable is 0
   abbrev pub product_step : (k v h l h' l' : ℕ) → Steps
   product_step k v h l h' l' = do
     a ← products N k l h'
@@ -152,7 +152,7 @@ module _ (N : ℕ) where
   ProductsOk k = (j : ℕ) (R : Rows) (low f g : ℕ) (p q : Assignment → Bool) → N < low + k → N < low + j → Sound N R → Is N R low p f → Is N R low q g
       → Ok N (products N k f g) (products N j f g) R low (λ a. p a && q a)
 
-  -- the then_part of the step
+  -- the then-part of the step
   abbrev pub then_step : (k h l h' l' : ℕ) → Steps
   then_step k h l h' l' = products N k l h' >>= λ a. products N k h h' >>= λ b. products N k h l' >>= λ c. sum N a b >>= λ d. sum N d c
 

@@ -49,7 +49,7 @@ module _ (N : ℕ) where
     unfolding sums
     sums_both k S h = rw (ne_eqb f 0 hf, ne_eqb g 0 hg, ne_eqb f g hfg, le-ltb (row N S f).var (row N S g).var (omega arith), le-ltb (row N S g).var (row N S f).var (omega arith), sums)
 
-  -- the step in one form: the sums of the then-parts and of the else-parts, where the then_part of an absent variable is 0
+  -- the step in one form: the sums of the then-parts and of the else-parts, where the then-part of an absent variable is 0
   abbrev pub sum_step : (k v h l h' l' : ℕ) → Steps
   sum_step k v h l h' l' = sums N k h h' >>= λ t. sums N k l l' >>= make v t
 

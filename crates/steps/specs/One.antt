@@ -7,7 +7,7 @@ use Rattle.steps.specs.Rows.{Rows, none, ◌▹◌, next, Assignment}
 unfoldable pub put : Assignment → ℕ → Bool → Assignment
 put a v b i = elim (eqb i v) [ true ↦ b | false ↦ a i ]
 
--- "at each row, if the else_part isn't 0 the variable is 0 and the else_part is followed; otherwise it is 1 and the then_part is followed.
+-- "at each row, if the else-part isn't 0 the variable is 0 and the else-part is followed; otherwise it is 1 and the then-part is followed.
 -- Variables not met are 0."
 unfoldable pub one : Rows → ℕ → Assignment
 one none k i = false

@@ -35,8 +35,8 @@ make v t e R =
 -- "Each descent moves to greater variable indices, so a nesting counter bounded by N falls at every call." That counter is the first
 -- number of sums, products and normals; N minus the least root of the operands, and one, is enough (the laws sum_depth, product_depth, normal_depth)
 module _ (N : ℕ) where
-  -- "Sum f + g: f = 0 gives g; g = 0 gives f; f = g gives 0. With unequal roots, take the smaller root, keep its then_part, add the other
-  -- operand to its else_part, make. With equal roots: sum of the then-parts, sum of the else-parts, make."
+  -- "Sum f + g: f = 0 gives g; g = 0 gives f; f = g gives 0. With unequal roots, take the smaller root, keep its then-part, add the other
+  -- operand to its else-part, make. With equal roots: sum of the then-parts, sum of the else-parts, make."
   unfoldable pub sums : ℕ → ℕ → ℕ → Steps
   sums zero f g = answer 0
   sums (suc k) f g = λ R.
@@ -59,8 +59,8 @@ module _ (N : ℕ) where
   abbrev pub sum : ℕ → ℕ → Steps
   sum = sums (suc N)
 
-  -- "Product f·g: f = 1 gives g; f or g = 0 gives 0; g = 1 or f = g gives f. With unequal roots: the smaller root's then_part times the other
-  -- operand, then its else_part times the other, make; f's side stays the left operand. With equal roots, in this order: else(f)·then(g),
+  -- "Product f·g: f = 1 gives g; f or g = 0 gives 0; g = 1 or f = g gives f. With unequal roots: the smaller root's then-part times the other
+  -- operand, then its else-part times the other, make; f's side stays the left operand. With equal roots, in this order: else(f)·then(g),
   -- then(f)·then(g), then(f)·else(g), sum of the first two, that plus the third, else(f)·else(g), make."
   unfoldable pub products : ℕ → ℕ → ℕ → Steps
   products zero f g = answer 0

@@ -28,7 +28,7 @@ pub record Apart (f g : ℕ) : Type 0 where
 abbrev pub depth : ℕ → Rows → ℕ → ℕ → ℕ
 depth N R f g = N - min (root N R f) (root N R g)
 
--- f and g at the lesser of their roots, v: "The absent variable's part is the else_part."
+-- f and g at the lesser of their roots, v: "The absent variable's part is the else-part."
 pub data Split (N : ℕ) (R : Rows) (f g : ℕ) : ℕ → ℕ → ℕ → ℕ → ℕ → Type 0 where
   less : root N R f < root N R g → Split N R f g (row N R f).var (row N R f).then_part 0 (row N R f).else_part g
   more : root N R g < root N R f → Split N R f g (row N R g).var 0 (row N R g).then_part f (row N R g).else_part

@@ -5,7 +5,7 @@ ghost use Rattle.sums.specs.Inner.{InUse, Split};
 use table::rows::row_of;
 use table::{Row, Var};
 
-// The lesser root, and the parts of f and g there: of one that has another root the then_part is 0 and the else_part is itself.
+// The lesser root, and the parts of f and g there: of one that has another root the then-part is 0 and the else-part is itself.
 #[derive(Clone, Copy)]
 pub struct Parts {
     pub v: Var,
