@@ -1,2 +1,4 @@
 pub mod Zero
 pub mod Unique
+pub mod StandsFor
+pub mod RowsStay

@@ -2,3 +2,4 @@ pub mod Puts
 pub mod Verdicts
 pub mod Printed
 pub mod Decimals
+pub mod StandsFor

@@ -8,22 +8,22 @@ use lib.Dec.{eqb, ltb}
 use borrow.Author.Tests.{eqb-true, eqb-false}
 use Rattle.steps.specs.Room.{Ending, made, full, within}
 use Rattle.steps.specs.Rows.{Row, row_of, Rows, ◌▹◌, count, next, find, row}
-use Rattle.steps.specs.Steps.{Steps, answer, ◌>>=◌, append, make, sums, sum, products, product, normals}
+use Rattle.steps.specs.Steps.{Steps, answer, ◌>>=◌, append, make, sums, sum, products, product, normals, normal}
 use Rattle.steps.proofs.Keeps.{Keeps, keeps_make, keeps_sums, keeps_products, keeps_normals, keeps_bind}
 use Rattle.steps.proofs.Room.{within_made, within_full, Fit, fits, over, fit}
-use Rattle.steps.proofs.Rows.{count_grows}
+use Rattle.steps.proofs.Rows.{stop, count_grows}
 
 module _ (room : ℕ) where
   abbrev pub Limited : Type 0
   Limited = Rows → Ending
 
   -- full stops all
-  abbrev then_do : Ending → (ℕ → Limited) → Ending
+  abbrev pub then_do : Ending → (ℕ → Limited) → Ending
   then_do (made x S) f = f x S
   then_do full f = full
 
   infixl 20 ◌>>>◌
-  abbrev ◌>>>◌ : Limited → (ℕ → Limited) → Limited
+  abbrev pub ◌>>>◌ : Limited → (ℕ → Limited) → Limited
   ◌>>>◌ m f R = then_do (m R) f
 
   abbrev pub give : ℕ → Limited
@@ -109,14 +109,21 @@ module _ (room : ℕ) where
         (λ t. does_bind (sums_in k r.else_part s.else_part) (sums N k r.else_part s.else_part) (make_in r.var t) (make r.var t) (does_sums k r.else_part s.else_part) (keeps_make r.var t) (does_make r.var t)) R h)))))
 
     -- m only appends, and l does the same until the room has run out
-    record Both (l : Limited) (m : Steps) : Type 0 where
-      only : Keeps m
-      does : Does l m
+    pub record Both (l : Limited) (m : Steps) : Type 0 where
+      pub only : Keeps m
+      pub does : Does l m
 
-    both_bind : {l : Limited} {m : Steps} {l' : ℕ → Limited} {m' : ℕ → Steps} → Both l m → ((x : ℕ) → Both (l' x) (m' x)) → Both (l >>> l') (m >>= m')
+    pub both_bind : {l : Limited} {m : Steps} {l' : ℕ → Limited} {m' : ℕ → Steps} → Both l m → ((x : ℕ) → Both (l' x) (m' x)) → Both (l >>> l') (m >>= m')
     both_bind {l} {m} {l'} {m'} b b' = record { only = keeps_bind m m' b.only (λ x. (b' x).only); does = does_bind l m l' m' b.does (λ x. (b' x).only) (λ x. (b' x).does) }
 
-    both_make : (v t e : ℕ) → Both (make_in v t e) (make v t e)
+    pub both_if : {l l' : Limited} {m m' : Steps} (b : Bool) → Both l m → Both l' m' → Both (when b run l otherwise l') (if b then m else m')
+    both_if true x y = x
+    both_if false x y = y
+
+    pub both_answer : (k : ℕ) → Both (give k) (answer k)
+    both_answer k = record { only = λ R. stop; does = does_answer k }
+
+    pub both_make : (v t e : ℕ) → Both (make_in v t e) (make v t e)
     both_make v t e = record { only = keeps_make v t e; does = does_make v t e }
 
     both_sum : (f g : ℕ) → Both (sums_in (suc N) f g) (sum N f g)
@@ -156,7 +163,7 @@ module _ (room : ℕ) where
         (either R (ltb s.var r.var) _ _ _ _ ((products_row k s.var f s.then_part f s.else_part ih).does R h)
         ((products_all k r.var r.then_part r.else_part s.then_part s.else_part ih).does R h)))))
 
-    both_product : (f g : ℕ) → Both (products_in (suc N) f g) (product N f g)
+    pub both_product : (f g : ℕ) → Both (products_in (suc N) f g) (product N f g)
     both_product f g = record { only = keeps_products N (suc N) f g; does = does_products (suc N) f g }
 
     pub normals_in : ℕ → ℕ → ℕ → Limited
@@ -190,3 +197,6 @@ module _ (room : ℕ) where
         (either R (ltb q.var r.var) _ _ _ _ (does_normals k p q.then_part R h)
         (either R (ltb r.var q.var) _ _ _ _ ((normals_row k r.var r.then_part r.else_part s ih).does R h)
         ((normals_all k r.then_part r.else_part q.then_part q.else_part ih).does R h)))
+
+    pub both_normal : (p s : ℕ) → Both (normals_in (suc N) p s) (normal N p s)
+    both_normal p s = record { only = keeps_normals N (suc N) p s; does = does_normals (suc N) p s }

@@ -4,5 +4,7 @@ pub mod Inputs
 pub mod Least
 pub mod Outcomes
 pub mod Endings
+pub mod StandsFor
+pub mod Stepwise
 pub mod Theorems
 mod Printed

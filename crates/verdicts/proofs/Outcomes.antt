@@ -16,9 +16,11 @@ use Rattle.steps.specs.Table.{Slices, slices, rows_of}
 use Rattle.steps.proofs.Room.{Fit, fits, over, fit}
 use Rattle.table.specs.Lent.{room}
 use Rattle.table.specs.Calls.{column, laid}
-use Rattle.aiger.specs.Net.{Got, got, Net, circuit}
-use Rattle.verdicts.specs.Calls.{Answer, refusal, Left, refuse, lengths_fine, end_with, judge, judge_read, circuit_call}
+use Rattle.aiger.specs.Answers.{number_of_refusal}
+use Rattle.aiger.specs.Net.{Got, got, refused, Net, circuit}
+use Rattle.verdicts.specs.Calls.{Answer, verdict_0, verdict_1, verdict_2, refusal, Left, refuse, lengths_fine, end_with, judge, judge_read, circuit_call}
 use Rattle.verdicts.specs.Patterns.{pattern_of}
+use Rattle.verdicts.specs.StandsFor.{Accepts}
 use Rattle.verdicts.specs.Verdicts.{never, can, room_out, judged, verdict_of}
 
 -- the refusals, in their order
@@ -44,6 +46,13 @@ module _ (net : Net) (s : Slices) (o : ℕ) (p : List ℕ) where
     pub judge_passes : length p ≡ length net.inputs → judge net s o p ≡ end_with (verdict_of net (room s) o) s p
     judge_passes h = rw (lt-ltb o (length net.outputs) there, eq-eqb (length p) (length net.inputs) h)
 
+-- the number of the verdict, 3 for a refusal: answers of two kinds are not equal
+abbrev pub kind : Answer → ℕ
+kind (verdict_0 n) = 0
+kind (verdict_1 n) = 1
+kind verdict_2 = 2
+kind (refusal w) = 3
+
 -- nothing is refused after the text
 pub record Passed (net : Net) (s : Slices) (o : ℕ) (p : List ℕ) : Type 0 where
   pub fine : lengths_fine s ≡ true
@@ -66,6 +75,26 @@ module _ (text : List ℕ) (net : Net) (rest : List ℕ) (reads : circuit text �
       go true f false g u h = stopped 14 (call_read text s o p f reads ∙ judge_no_output net s o p (ltb-false o (length net.outputs) g))
       go true f true g false h = stopped 15 (call_read text s o p f reads ∙ judge_no_pattern net s o p (ltb-true o (length net.outputs) g) (eqb-false (length p) (length net.inputs) h))
       go true f true g true h = record { fine = f; there = ltb-true o (length net.outputs) g; long = eqb-true (length p) (length net.inputs) h }
+
+-- the same, said by the kind
+module _ (text : List ℕ) (s : Slices) (o : ℕ) (p : List ℕ) where
+  abbrev answer : Answer
+  answer = (circuit_call text s o p).answer
+
+  pub verdict_passes : (net : Net) (rest : List ℕ) → circuit text ≡ got net rest → kind (circuit_call text s o p).answer < 3 → Passed net s o p
+  verdict_passes net rest reads n = passed text net rest reads s o p answer (λ w q. omega (arith, n, ap kind q)) refl
+
+  -- and where it is not known that the text is accepted
+  pub answered : kind (circuit_call text s o p).answer < 3 → Accepts text (λ net. Passed net s o p)
+  answered n = go (lengths_fine s) refl (circuit text) refl
+    where
+      stopped : (w : ℕ) → circuit_call text s o p ≡ refuse w s p → Accepts text (λ net. Passed net s o p)
+      stopped w q = absurd (omega (arith, n, ap (λ (l : Left). kind l.answer) q))
+
+      go : (f : Bool) → lengths_fine s ≡ f → (r : Got Net) → circuit text ≡ r → Accepts text (λ net. Passed net s o p)
+      go false f r e = stopped 1 (call_lengths text s o p f)
+      go true f (refused w) e = stopped (number_of_refusal w) (call_read text s o p f e)
+      go true f (got net rest) e = record { net = net; rest = rest; reads = e; holds = verdict_passes net rest e n }
 
 -- the verdicts
 

@@ -1,13 +1,14 @@
 -- What the verdicts of the circuit call mean: the theorems that a reader will look for.
-use Prim.Native.Nat.{ℕ, ◌/◌, ◌<◌, ◌≤◌}
+use Prim.Native.Nat.{ℕ, ◌<◌, ◌≤◌}
 use mathlib.Core.Path.{◌≡◌, refl, sym, ap, subst, ◌∙◌}
 use mathlib.Core.Bool.{Bool, true, false}
-use mathlib.Core.List.{List, [], ◌∷◌}
+use mathlib.Core.List.{List}
 use native.Mathlib.Omega.{arith}
 use lib.Dec.{eqb, ltb}
-use lib.ListN.{length, length-map}
-use Rattle.steps.specs.Rows.{Rows, bit}
+use lib.ListN.{length}
+use Rattle.steps.specs.Rows.{Rows}
 use Rattle.steps.specs.One.{one}
+use Rattle.steps.specs.Room.{full}
 use Rattle.steps.specs.Table.{Slices, rows_of}
 use Rattle.table.specs.Lent.{room}
 use Rattle.table.specs.Calls.{unless◌then◌else◌, laid, cleared}
@@ -15,11 +16,12 @@ use Rattle.aiger.specs.Net.{Got, got, refused, Net, circuit}
 use Rattle.aiger.specs.Accepted.{Accepted}
 use Rattle.aiger.proofs.Accepted.{accepted}
 use Rattle.verdicts.specs.Calls.{Answer, verdict_0, verdict_1, verdict_2, refusal, rows_made, Left, left, refuse, lengths_fine, end_with, judge_read, circuit_call}
-use Rattle.verdicts.specs.Systems.{ring}
 use Rattle.verdicts.specs.Patterns.{pattern_of, bytes, bits, output_value, NotGreater}
+pub use Rattle.verdicts.specs.StandsFor.{Witness}
 use Rattle.verdicts.specs.Verdicts.{Verdict, never, can, room_out, output_rows, rows_needed, verdict_of}
-use Rattle.verdicts.proofs.Least.{form_0, form_1, found_least}
-use Rattle.verdicts.proofs.Outcomes.{call_lengths, call_read, Passed, call_passes, passed, Case, zero_found, one_found, no_room, case, laid_rows}
+use Rattle.verdicts.proofs.Outcomes.{call_lengths, call_read, Passed, call_passes, kind, passed, Case, zero_found, one_found, no_room, case, laid_rows}
+use Rattle.verdicts.proofs.StandsFor.{never_one, least_one}
+use Rattle.verdicts.proofs.Stepwise.{output_ending, runs_out, only_then}
 
 -- two calls that give the same verdict, count and rows, and the same pattern where one is written
 pub record Same (l l' : Left) : Type 0 where
@@ -32,30 +34,7 @@ pub data Settled : Answer → Type 0 where
   at_0 : {n : ℕ} → Settled (verdict_0 n)
   at_1 : {n : ℕ} → Settled (verdict_1 n)
 
--- bytes that are 0s and 1s, one for each input, and make output o 1
-pub record Witness (net : Net) (o : ℕ) (b : List ℕ) : Type 0 where
-  pub zeros_and_ones : bytes (bits b) ≡ b
-  pub long : length b ≡ length net.inputs
-  pub makes_1 : output_value net (bits b) o ≡ true
-
--- a byte and back
-
-bit_read : (x : Bool) → eqb (bit x) 1 ≡ x
-bit_read true = refl
-bit_read false = refl
-
-bits_bytes : (q : List Bool) → bits (bytes q) ≡ q
-bits_bytes [] = refl
-bits_bytes (x ∷ q) = rw (bit_read x, bits_bytes q)
-
 -- the ways in which a call on an accepted text ends
-
--- answers of two kinds are not equal
-abbrev kind : Answer → ℕ
-kind (verdict_0 n) = 0
-kind (verdict_1 n) = 1
-kind verdict_2 = 2
-kind (refusal w) = 3
 
 settled_kind : {a : Answer} → Settled a → kind a < 2
 settled_kind at_0 = omega arith
@@ -105,7 +84,7 @@ module _ (text : List ℕ) (net : Net) (rest : List ℕ) (reads : circuit text �
       x = passed text net rest reads s o p (verdict_0 n) (settled_passes at_0) e
 
       go : Told → output_value net q o ≡ false
-      go (told_0 h z c) = form_0 ok o x.there z q
+      go (told_0 h z c) = (never_one ok o x.there z).always_0 q
       go (told_1 h z c) = absurd (omega (arith, kind_of c, ap kind e))
       go (told_2 h c) = absurd (omega (arith, kind_of c, ap kind e))
 
@@ -122,21 +101,14 @@ module _ (text : List ℕ) (net : Net) (rest : List ℕ) (reads : circuit text �
 
   -- "Only verdict 1 writes the pattern, one byte for each input in file order": it makes the output 1
   pub verdict_one : (n : ℕ) → (circuit_call text s o p).answer ≡ verdict_1 n → Witness net o (circuit_call text s o p).pattern
-  verdict_one n e =
-      let w = written n e in
-      let q : List Bool = pattern_of net (one R k) in
-      subst (Witness net o) (sym w.1.1) (record {
-        zeros_and_ones = ap bytes (bits_bytes q);
-        long = length-map q bit ∙ length-map net.inputs (λ l. one R k (ring net.M (l / 2)));
-        makes_1 = ap (λ (b : List Bool). output_value net b o) (bits_bytes q) ∙ form_1 ok o w.0.there w.1.0;
-      })
+  verdict_one n e = let w = written n e in subst (Witness net o) (sym w.1.1) (least_one ok o w.0.there w.1.0).witness
 
   -- "The least pattern reads the highest-numbered input variable first.": no pattern that makes the output 1 is less
   pub verdict_one_least : (n : ℕ) → (circuit_call text s o p).answer ≡ verdict_1 n → (q : List Bool) → length q ≡ length net.inputs → output_value net q o ≡ true
       → NotGreater net.inputs (bits (circuit_call text s o p).pattern) q
   verdict_one_least n e q long is_1 =
       let w = written n e in
-      subst (λ (b : List Bool). NotGreater net.inputs b q) (sym (ap bits w.1.1 ∙ bits_bytes (pattern_of net (one R k)))) (found_least ok o w.0.there q long is_1)
+      subst (λ (b : List ℕ). NotGreater net.inputs (bits b) q) (sym w.1.1) ((least_one ok o w.0.there w.1.0).least q long is_1)
 
   -- "verdict 2 (room ran out)": exactly where the written steps need more rows than are lent
   pub verdict_two_exactly : Passed net s o p
@@ -147,6 +119,18 @@ module _ (text : List ℕ) (net : Net) (rest : List ℕ) (reads : circuit text �
       go (told_0 h z c) = (λ q. absurd (omega (arith, kind_of c, ap kind q)), λ g. absurd (omega arith))
       go (told_1 h z c) = (λ q. absurd (omega (arith, kind_of c, ap kind q)), λ g. absurd (omega arith))
       go (told_2 h c) = (λ q. h, λ g. ap (λ (l : Left). l.answer) c)
+
+  -- "verdict 2 (room ran out)", of a call that is not refused
+  pub verdict_two_unrefused : lengths_fine s ≡ true → o < length net.outputs → length p ≡ length net.inputs
+      → ((circuit_call text s o p).answer ≡ verdict_2 → room s < rows_needed net o) × (room s < rows_needed net o → (circuit_call text s o p).answer ≡ verdict_2)
+  verdict_two_unrefused fine there long = verdict_two_exactly (record { fine = fine; there = there; long = long })
+
+  -- "Room has run out when a row must be appended and all R are in use.": of a call that is not refused, verdict 2 exactly where the steps, taken one by one, come to that
+  pub verdict_two_stepwise : lengths_fine s ≡ true → o < length net.outputs → length p ≡ length net.inputs
+      → ((circuit_call text s o p).answer ≡ verdict_2 → output_ending (room s) net o ≡ full) × (output_ending (room s) net o ≡ full → (circuit_call text s o p).answer ≡ verdict_2)
+  verdict_two_stepwise fine there long =
+      let x = verdict_two_unrefused fine there long in
+      (λ q. runs_out (room s) net o (x.0 q), λ q. x.1 (only_then (room s) net o q))
 
   -- the count of rows made "is the length of the row list the written steps give", and those rows "stand from row 0 on"
   pub verdict_rows : Settled (circuit_call text s o p).answer

@@ -2,3 +2,4 @@ pub mod Systems
 pub mod Patterns
 pub mod Verdicts
 pub mod Calls
+pub mod StandsFor
