@@ -135,18 +135,11 @@ front_row R r xs ys zs h =
       h,
     )
 
-slices_by : {xs xs' ys ys' zs zs' : List ℕ} → xs ≡ xs' → ys ≡ ys' → zs ≡ zs' → slices xs ys zs ≡ slices xs' ys' zs'
-slices_by p q r = rw (p, q, r)
-
 front_rows : (R : Rows) (xs ys zs : List ℕ) → rows_of (slices (column (λ r. r.var) R ++ xs) (column (λ r. r.then_part) R ++ ys) (column (λ r. r.else_part) R ++ zs)) (count R) ≡ R
 unfolding column count rows_of
 front_rows none xs ys zs = refl
 front_rows (R ▹ r) xs ys zs =
-    ap (λ (s : Slices). rows_of s (suc (count R)))
-    (slices_by
-    (append_snoc (column (λ r. r.var) R) r.var xs)
-    (append_snoc (column (λ r. r.then_part) R) r.then_part ys)
-    (append_snoc (column (λ r. r.else_part) R) r.else_part zs))
+    (λ i. rows_of (slices (append_snoc (column (λ r. r.var) R) r.var xs i) (append_snoc (column (λ r. r.then_part) R) r.then_part ys i) (append_snoc (column (λ r. r.else_part) R) r.else_part zs i)) (suc (count R)))
     ∙ front_row R r xs ys zs (front_rows R (r.var ∷ xs) (r.then_part ∷ ys) (r.else_part ∷ zs))
 
 pub laid_rows : (R : Rows) (s : Slices) → rows_of (laid R s) (count R) ≡ R
