@@ -5,3 +5,4 @@ pub mod Takes
 pub mod Ends
 pub mod Enters
 pub mod Words
+pub mod Loans
