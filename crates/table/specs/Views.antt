@@ -5,13 +5,18 @@ use Rattle.steps.specs.Rows.{Row as Triple, Rows as Row-list, row_of}
 use Rattle.steps.specs.Table.{Slices, slices, rows_of}
 use Rattle.table.specs.declared.rows.Node.{Node}
 use Rattle.table.specs.declared.rows.Rows.{Rows}
+use Rattle.table.specs.declared.rows.View.{View}
 use Rattle.table.specs.declared.Table.{Table}
 
 -- the row that a node is
 abbrev pub triple : Node → Triple
 triple x = row_of x.v.0 x.t.0 x.e.0
 
--- the slices of a view, and the rows that it shows
+-- the slices of a table that is lent to be read
+abbrev pub slices_seen : View → Slices
+slices_seen v = slices v.vs.now v.ts.now v.es.now
+
+-- the slices of checked rows, and the rows themselves
 abbrev pub viewed : Rows → Slices
 viewed r = slices r.vs.now r.ts.now r.es.now
 

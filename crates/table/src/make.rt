@@ -5,15 +5,28 @@ ghost use Rattle.steps.specs.Steps.{make, append};
 ghost use Rattle.steps.specs.Table.{rows_of};
 ghost use Rattle.table.specs.Lent.{Lent};
 ghost use Rattle.table.specs.Index.{Indexed, Belongs};
-ghost use Rattle.table.specs.Views.{triple, viewed, slices_of, SameLoans};
+ghost use Rattle.table.specs.Views.{triple, viewed, slices_seen, slices_of};
 ghost use Rattle.table.specs.Inner.{Finds};
 ghost use Rattle.table.specs.Tables.{TakenIn, EnteredIn};
 
 use crate::index::{Bucket, enter, find, index_words};
-use crate::rows::{Node, Rows};
+use crate::rows::{Node, Rows, View};
 use crate::{NoRoom, Row, Table};
 
 impl Table<'_> {
+    // The table, to be read.
+    pub fn view(&self) -> View<'_>
+        ensures slices { slices_seen result ≡ slices_of self.now }
+        ensures count { result.count ≡ self.now.count }
+    {
+        View {
+            vs: self.vs,
+            ts: self.ts,
+            es: self.es,
+            count: self.count,
+        }
+    }
+
     // The rows in use.
     pub fn rows(&self) -> Rows<'_>
         requires { Lent self.now.count (slices_of self.now) }

@@ -13,7 +13,16 @@ pub struct Node {
     pub e: Row,
 }
 
-// The first rows of a lent table, to be read.
+// A table that is lent to be read, not yet checked.
+#[derive(Clone, Copy)]
+pub struct View<'a> {
+    pub vs: &'a [u16],
+    pub ts: &'a [u16],
+    pub es: &'a [u16],
+    pub count: usize,
+}
+
+// The first rows of a table whose lengths and count are in range, to be read.
 #[derive(Clone, Copy)]
 pub struct Rows<'a> {
     pub vs: &'a [u16],
