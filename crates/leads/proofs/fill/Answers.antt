@@ -17,5 +17,5 @@ loop-v-preserved c = record {
   same = record { vs = c.loop-v.invariant.same.vs; ts = c.loop-v.invariant.same.ts; es = c.loop-v.invariant.same.es; work = c.loop-v.invariant.same.work };
   slices = c.loop-v.invariant.slices;
   count = c.loop-v.invariant.count;
-  filling = fill_goes_on _ _ _ _ _ c.requires.0 c.requires.1 _ _ _ c.loop-v.invariant.filling _ c.words_used-from.ensures (table_fits _ _ _ c.words_used-from.ensures _ c.if-t-from.false) c.loop-v-test.true _ (rw (c.rows.ensures.count, c.loop-v.invariant.count, c.rows.ensures.rows, c.loop-v.invariant.slices) at c.past-g.ensures);
+  filling = fill_goes_on _ _ _ _ _ c.requires.0 c.requires.1 _ _ _ c.loop-v.invariant.filling _ c.words_used-from.ensures (table_fits _ _ _ c.words_used-from.ensures _ c.if-t-from.false) c.loop-v-test.true _ (rw (c.rows.ensures.shown, c.loop-v.invariant.count, c.loop-v.invariant.slices) at c.past-g.ensures);
 }
