@@ -1,4 +1,3 @@
-pub mod Freed
 pub mod Checking
 pub mod Endings
 pub mod CallEnds

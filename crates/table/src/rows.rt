@@ -1,5 +1,5 @@
 // For the crates above: rows in use, read from the three slices.
-ghost use Rattle.std.specs.Prelude.{◌≡◌, ◌<◌, ◌+◌};
+ghost use Rattle.std.specs.Prelude.{◌≡◌, ◌<◌, ◌≤◌, ◌+◌};
 ghost use Rattle.steps.specs.Table.{slices};
 ghost use Rattle.table.specs.Lent.{Lent};
 
@@ -36,6 +36,20 @@ impl<'a> Rows<'a> {
     ghost use Rattle.steps.specs.Rows.{row, alike};
     ghost use Rattle.steps.specs.Table.{row_at};
     ghost use Rattle.table.specs.Views.{triple, viewed, shown};
+
+    // The rows before row i.
+    pub fn before(&self, i: usize) -> Rows<'a>
+        requires { i ≤ self.now.count }
+        ensures rows { viewed result ≡ viewed self.now }
+        ensures count { result.count ≡ i }
+    {
+        Rows {
+            vs: self.vs,
+            ts: self.ts,
+            es: self.es,
+            count: i,
+        }
+    }
 
     // Row i.
     pub fn node(&self, i: usize) -> Node
