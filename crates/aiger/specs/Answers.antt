@@ -1,6 +1,6 @@
 -- What the answers of the code stand for over the text s: a position is what is left of s there.
 -- Assumes nothing.
-use Rattle.std.specs.Prelude.{ℕ, zero, suc, ◌≤◌, ◌≡◌, true, List, [], ◌∷◌, ◌++◌, length, get_or, take, drop}
+use Rattle.std.specs.Prelude.{ℕ, zero, suc, ◌≤◌, ◌≡◌, true, List, [], ◌∷◌, ◌++◌, length, map, get_or, take, drop}
 use Rattle.aiger.specs.Form as form
 use Rattle.aiger.specs.Form.{read, fault, Header}
 use Rattle.aiger.specs.Net.{Got, got, refused, Unknown, at, nowhere, limits, Net, circuit}
@@ -10,6 +10,7 @@ use Rattle.aiger.specs.declared.numbers.Step.{Step}
 use Rattle.aiger.specs.declared.numbers.Step.TheVariants.{Next, Stop}
 use Rattle.aiger.specs.declared.numbers.Read.{Read}
 use Rattle.aiger.specs.declared.numbers.Read.TheVariants.{Number, Bad}
+use Rattle.aiger.specs.declared.lines.Lit.{Lit}
 use Rattle.aiger.specs.declared.lines.Gate.{Gate}
 use Rattle.aiger.specs.declared.lines.GateRead.{GateRead}
 use Rattle.aiger.specs.declared.lines.GateRead.TheVariants.{Lits, Broken}
@@ -53,6 +54,13 @@ number_of s (Bad w) = fault w
 
 abbrev pub lits_of : Gate → form.Gate
 lits_of g = record { left = g.left.0; right0 = g.right0.0; right1 = g.right1.0 }
+
+-- literals and gates, as the paper has them
+abbrev pub literals_in : List Lit → List ℕ
+literals_in = map (λ l. l.0)
+
+abbrev pub gates_in : List Gate → List form.Gate
+gates_in = map lits_of
 
 abbrev pub gate_of : List ℕ → GateRead → form.Read form.Gate
 gate_of s (Lits g p) = read (lits_of g) (drop p s)

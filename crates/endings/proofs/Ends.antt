@@ -7,12 +7,11 @@ use borrow.Author.Tests.{eq-eqb, ne_eqb}
 use Rattle.steps.specs.One.{one}
 use Rattle.steps.specs.Table.{Slices, rows_of}
 use Rattle.table.specs.declared.Row.{Row}
-use Rattle.table.specs.declared.make.Made.{Made}
-use Rattle.table.specs.declared.make.Made.TheVariants.{At, Full}
+use Rattle.table.specs.Made.{Made}
+use Rattle.table.specs.Made.{At, Full}
 use Rattle.table.specs.Calls.{cleared}
 use Rattle.verdicts.specs.Calls.{left, verdict_1, verdict_2}
-use Rattle.endings.specs.declared.Judged.TheVariants.{Never, Can, RoomOut}
-use Rattle.endings.specs.Answers.{Answered}
+use Rattle.endings.specs.Answers.{Never, Can, RoomOut, Answered}
 use Rattle.endings.specs.Inner.{bytes_at, PatternAsked, end_at, end_of, PatternIf, EndAsked}
 
 module _ (M : ℕ) (ls : List ℕ) (s : Slices) (p : List ℕ) {r : Made} where

@@ -12,8 +12,8 @@ use Rattle.steps.proofs.Rows.{row_const}
 use Rattle.steps.proofs.Solve.{solve}
 use Rattle.steps.proofs.Table.{rows_of_next}
 use Rattle.table.specs.declared.Row.{Row}
-use Rattle.table.specs.declared.make.Made.{Made}
-use Rattle.table.specs.declared.make.Made.TheVariants.{At, Full}
+use Rattle.table.specs.Made.{Made}
+use Rattle.table.specs.Made.{At, Full}
 use Rattle.table.specs.Inner.{Kept}
 use Rattle.table.specs.Memory.{Live}
 use Rattle.table.proofs.Takes.{taken_rows}

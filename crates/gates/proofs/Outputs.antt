@@ -8,8 +8,8 @@ use Rattle.steps.specs.Table.{Slices, rows_of}
 use Rattle.steps.proofs.Keeps.{keeps_normals}
 use Rattle.steps.proofs.Table.{rows_of_next, rows_of_none}
 use Rattle.table.specs.declared.Row.{Row}
-use Rattle.table.specs.declared.make.Made.{Made}
-use Rattle.table.specs.declared.make.Made.TheVariants.{At, Full}
+use Rattle.table.specs.Made.{Made}
+use Rattle.table.specs.Made.{At, Full}
 use Rattle.table.specs.Inner.{Taken, Kept}
 use Rattle.table.proofs.Takes.{taken_rows, taken_full, taken_then}
 use Rattle.aiger.specs.Answers.{gates_of}

@@ -6,7 +6,9 @@ use Rattle.steps.specs.Steps.{Steps, ◌>>=◌, product}
 use Rattle.steps.specs.System.{equation}
 use Rattle.steps.specs.Table.{Slices, rows_of}
 use Rattle.table.specs.Lent.{Lent}
+use Rattle.table.specs.declared.Table.{Table}
 use Rattle.table.specs.Memory.{Live}
+use Rattle.table.specs.Views.{slices_of}
 use Rattle.aiger.specs.Answers.{Slices as NetSlices, Lent as NetLent, gates_of, sizes_of, net_in}
 use Rattle.aiger.specs.Form.{Gate}
 use Rattle.aiger.specs.Net.{limits}
@@ -50,6 +52,16 @@ pub record GateAsked (N c : ℕ) (s : Slices) (work : List ℕ) (g : Gate) (F : 
   pub below1 : g.right1 / 2 < g.left / 2
   pub not_0 : F ≡ 0 → ⊥
   pub system : Behind N c s g.left F
+
+-- the same of a table
+abbrev pub LiteralIn : ℕ → Table → ℕ → Type 0
+LiteralIn N t = LiteralAsked N t.count (slices_of t) t.work.now
+
+abbrev pub JoinedIn : ℕ → Table → ℕ → ℕ → ℕ → ℕ → Type 0
+JoinedIn N t = JoinedAsked N t.count (slices_of t) t.work.now
+
+abbrev pub GateIn : ℕ → Table → Gate → ℕ → Type 0
+GateIn N t = GateAsked N t.count (slices_of t) t.work.now
 
 -- an empty table, and the gates of an accepted net in three slices
 pub record BuildAsked (N : ℕ) (s : Slices) (work xs ys zs : List ℕ) (gates : ℕ) : Type 0 where
