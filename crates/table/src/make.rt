@@ -5,7 +5,7 @@ ghost use Rattle.steps.specs.Steps.{make, append};
 ghost use Rattle.steps.specs.Table.{rows_of};
 ghost use Rattle.table.specs.Lent.{Lent};
 ghost use Rattle.table.specs.Index.{Indexed, Belongs};
-ghost use Rattle.table.specs.Views.{triple, viewed, slices_seen, slices_of};
+ghost use Rattle.table.specs.Views.{triple, viewed, shown, slices_seen, slices_of};
 ghost use Rattle.table.specs.Inner.{Finds};
 ghost use Rattle.table.specs.Tables.{TakenIn, EnteredIn};
 
@@ -32,6 +32,7 @@ impl Table<'_> {
         requires { Lent self.now.count (slices_of self.now) }
         ensures rows { viewed result ≡ slices_of self.now }
         ensures count { result.count ≡ self.now.count }
+        ensures shown { shown result ≡ rows_of (slices_of self.now) self.now.count }
     {
         Rows {
             vs: self.vs,

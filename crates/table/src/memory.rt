@@ -1,8 +1,8 @@
 // For the crates above: remembered results, in the words of the working slice behind the index.
-ghost use Rattle.std.specs.Prelude.{◌≡◌, ◌+◌, ◌*◌, ◌-◌, ◌<◌, set};
+ghost use Rattle.std.specs.Prelude.{◌≡◌, ◌+◌, ◌*◌, ◌-◌, ◌<◌, length, set};
 ghost use Rattle.table.specs.Memory.{memory_size, reach, number_of, key_of, Size, Place, Recalls};
 
-use crate::Row;
+use crate::{Row, Table};
 use crate::index::index_words;
 
 // The operations whose results are remembered.
@@ -64,7 +64,7 @@ fn word(m: usize, key: u64) -> usize
 
 impl Slot {
     // Where the result under the key stands, for a table of so many rows and a working slice of len words; where nothing is remembered, behind its end.
-    pub fn of(rows: usize, len: usize, key: u64) -> Slot
+    fn of(rows: usize, len: usize, key: u64) -> Slot
         ensures place { Place rows len result.at }
         ensures key { result.key ≡ key }
     {
@@ -76,7 +76,7 @@ impl Slot {
 }
 
 // The result that is remembered.
-pub fn recall(work: &[u64], slot: Slot) -> Option<Row>
+fn recall(work: &[u64], slot: Slot) -> Option<Row>
     ensures { Recalls result work.now slot.at slot.key }
 {
     let w = *work.get(slot.at)?;
@@ -84,6 +84,23 @@ pub fn recall(work: &[u64], slot: Slot) -> Option<Row>
         Some(Row((w % 65536) as u16))
     } else {
         None
+    }
+}
+
+impl Table<'_> {
+    // Where the result under the key stands.
+    pub fn slot(&self, key: u64) -> Slot
+        ensures place { Place (length self.now.vs.now) (length self.now.work.now) result.at }
+        ensures key { result.key ≡ key }
+    {
+        Slot::of(self.vs.len(), self.work.len(), key)
+    }
+
+    // The result that is remembered there.
+    pub fn recall(&self, slot: Slot) -> Option<Row>
+        ensures { Recalls result self.now.work.now slot.at slot.key }
+    {
+        recall(self.work, slot)
     }
 }
 
