@@ -7,8 +7,8 @@ ghost use Rattle.endings.specs.Inner.{bytes_at, PatternAsked};
 
 use aiger::lines::Lit;
 use assignments::seek::one_of;
-use table::Row;
 use table::rows::Rows;
+use table::{Row, Var};
 
 // Writes the values of the inputs, in their order, in the one of the number k: input variable v is ring variable n - v.
 pub fn write_pattern(rows: &Rows<'_>, n: u16, k: Row, inputs: &[Lit], pattern: &mut [u8])
@@ -18,7 +18,7 @@ pub fn write_pattern(rows: &Rows<'_>, n: u16, k: Row, inputs: &[Lit], pattern: &
     let mut ones = [0u8; 1024];
     one_of(rows, k, &mut ones);
     for i in 0..pattern.len() {
-        let v = n - inputs[i].0 / 2;
-        pattern[i] = ones[v as usize];
+        let v = Var(n - inputs[i].0 / 2);
+        pattern[i] = ones[v.0 as usize];
     }
 }
