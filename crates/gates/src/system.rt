@@ -1,8 +1,8 @@
 // For the crate above: the written steps of a literal and of a gate, and the system of all gates.
 ghost use Rattle.table.specs.Tables.{KeptIn};
-ghost use Rattle.aiger.specs.Answers.{lits_of};
+ghost use Rattle.aiger.specs.Answers.{lits_of, gates_in};
 ghost use Rattle.verdicts.specs.Systems.{literal_steps, gate_steps, build};
-ghost use Rattle.gates.specs.Inner.{LiteralIn, JoinedIn, GateIn, joined_steps};
+ghost use Rattle.gates.specs.Inner.{LiteralIn, JoinedIn, GateIn, BuildIn, joined_steps};
 
 use aiger::lines::{Gate, Lit};
 use products::written::product;
@@ -25,14 +25,7 @@ pub fn literal(t: &mut Table<'_>, n: u16, l: Lit) -> Result<Row, NoRoom>
 }
 
 // The product of a gate's rights, and its equation added to the system.
-fn joined(
-    t: &mut Table<'_>,
-    n: u16,
-    left: Lit,
-    system: Row,
-    f: Row,
-    g: Row,
-) -> Result<Row, NoRoom>
+fn joined(t: &mut Table<'_>, n: u16, left: Lit, system: Row, f: Row, g: Row) -> Result<Row, NoRoom>
     requires { JoinedIn n t.old left.0 system.0 f.0 g.0 }
     ensures { KeptIn n (joined_steps n left.0 system.0 f.0 g.0) result t.old t.new }
 {
@@ -54,3 +47,14 @@ pub fn gate(t: &mut Table<'_>, n: u16, g: Gate, system: Row) -> Result<Row, NoRo
     joined(t, n, g.left, system, f, h)
 }
 
+// The system of the gates, in their order, from an empty table.
+pub fn build(t: &mut Table<'_>, n: u16, gates: &[Gate]) -> Result<Row, NoRoom>
+    requires { BuildIn n t.old (gates_in gates.now) }
+    ensures { KeptIn n (build n (gates_in gates.now) 1) result t.old t.new }
+{
+    let mut system = Row(1);
+    for g in gates {
+        system = gate(t, n, *g, system)?;
+    }
+    Ok(system)
+}
