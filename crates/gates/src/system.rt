@@ -53,8 +53,8 @@ pub fn build(t: &mut Table<'_>, n: u16, gates: &[Gate]) -> Result<Row, NoRoom>
     ensures { KeptIn n (build n (gates_in gates.now) 1) result t.old t.new }
 {
     let mut system = Row(1);
-    for g in gates {
-        system = gate(t, n, *g, system)?;
+    for i in 0..gates.len() {
+        system = gate(t, n, gates[i], system)?;
     }
     Ok(system)
 }
