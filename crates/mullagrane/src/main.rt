@@ -7,12 +7,12 @@ ghost use Rattle.aiger.specs.Answers as net;
 ghost use Rattle.mullagrane.specs.Inner.{Read, Ready};
 
 use aiger::header::Sizes;
-use aiger::net::{NetRead, Refusal};
+use aiger::net::NetRead;
 use nets::for_circuit::read_net;
 use outputs::system;
 use printing::{print, print_refusal};
 use std::io;
-use std::io::{Read, Write};
+use std::io::Read;
 use table::make::Made;
 
 // Each output from the system's rows, which stay. A standard output that fails ends it.
@@ -35,15 +35,11 @@ fn print_all(
         (net.slices ins.now outs.now lefts.now rights0.now rights1.now)
         (length pattern.old) }
 {
-    let mut line = [0u8; 1040];
-    let outputs = h.outputs as usize;
-    let mut o = 0;
-    while o < outputs {
-        let k = print(
-            h, ins, outs, lefts, rights0, rights1, vs, ts, es, work, made, o, pattern, &mut line,
+    for o in 0..h.outputs as usize {
+        let line = print(
+            h, ins, outs, lefts, rights0, rights1, vs, ts, es, work, made, o, pattern,
         );
-        io::writer(rt).write_all(&line[..k])?;
-        o += 1;
+        rt.print(line)?;
     }
     Ok(())
 }
@@ -86,12 +82,6 @@ fn judge_net(
     )
 }
 
-fn print_refused(rt: &impl Print, why: Refusal) -> io::Result<()> {
-    let mut line = [0u8; 16];
-    let k = print_refusal(why, &mut line);
-    io::writer(rt).write_all(&line[..k])
-}
-
 fn judge_text(rt: &impl Print, text: &[u8]) -> io::Result<()> {
     let mut ins = [0u16; 1024];
     let mut outs = [0u16; 1024];
@@ -108,7 +98,7 @@ fn judge_text(rt: &impl Print, text: &[u8]) -> io::Result<()> {
     );
     match r {
         NetRead::Whole(h, _) => judge_net(rt, h, &ins, &outs, &lefts, &rights0, &rights1),
-        NetRead::Unread(why) => print_refused(rt, why),
+        NetRead::Unread(why) => rt.print(print_refusal(why)),
     }
 }
 

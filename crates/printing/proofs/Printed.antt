@@ -2,7 +2,6 @@
 use Prim.Native.Nat.{ℕ}
 use mathlib.Core.Path.{◌≡◌, refl, sym, ap, ◌∙◌}
 use mathlib.Core.List.{List}
-use lib.ListN.{take}
 use Rattle.steps.specs.Table.{Slices}
 use Rattle.table.specs.declared.make.Made.{Made}
 use Rattle.table.specs.Lent.{room}
@@ -24,9 +23,9 @@ same_text (can R q) s t p o = refl
 same_text room_out s t p o = refl
 
 -- s₀ is any table of the size of s
-pub printed_verdict : {made : Made} {s s' : Slices} {h : Sizes} {x : NetSlices} {o k : ℕ} {p line : List ℕ} → Prints made s s' h x o p line k
+pub printed_verdict : {made : Made} {s s' : Slices} {h : Sizes} {x : NetSlices} {o : ℕ} {p line : List ℕ} → Prints made s s' h x o p line
     → (text rest : List ℕ) → circuit text ≡ got (net_in h x) rest → (s₀ : Slices) → room s₀ ≡ room s → Passed (net_in h x) s₀ o p
-    → take k line ≡ printed (circuit_call text s₀ o p) o
+    → line ≡ printed (circuit_call text s₀ o p) o
 printed_verdict {s = s} {h = h} {x = x} {o = o} {p = p} prints text rest reads s₀ size passed =
     let net = net_in h x in
     prints.text ∙ same_text (verdict_of net (room s) o) s s₀ p o
@@ -38,6 +37,6 @@ number (Counted i o) = 0
 number (Refused n) = n
 
 -- of a refused text it is the number that the text call answers
-pub printed_refusal : {why : Refusal} {k : ℕ} {line : List ℕ} → PrintsRefusal why line k
-    → (text : List ℕ) → circuit text ≡ unread why → (n : ℕ) → text_call text ≡ Refused n → take k line ≡ refused n
+pub printed_refusal : {why : Refusal} {line : List ℕ} → PrintsRefusal why line
+    → (text : List ℕ) → circuit text ≡ unread why → (n : ℕ) → text_call text ≡ Refused n → line ≡ refused n
 printed_refusal prints text reads n answer = prints.text ∙ ap refused (ap number (sym (ap answer_of reads) ∙ answer))

@@ -1,22 +1,22 @@
-// For the program: what it prints of an output or a refusal, laid down in a lent line. Nothing here is a call of the scope.
+// For the program: what it prints of an output or a refusal, as a line of text. Nothing here is a call of the scope.
 #![tactic(auto)]
 
 mod line;
 
-ghost use Rattle.std.specs.Prelude.{◌≤◌, length};
+ghost use Rattle.std.specs.Prelude.{length};
 ghost use Rattle.steps.specs.Table.{slices};
 ghost use Rattle.aiger.specs.Answers as net;
 ghost use Rattle.printing.specs.Inner.{Asked, Prints, PrintsRefusal};
 
-use crate::line::{block, refused};
+pub use crate::line::Line;
+use crate::line::{block, refused, verdict_alone};
 use aiger::header::Sizes;
 use aiger::net::Refusal;
-use endings::Judged;
 use nets::for_circuit::number_of;
 use outputs::judge;
 use table::make::Made;
 
-// The block of output o, from the system or from the want of room for it; tells how many bytes.
+// The block of output o, from the system or from the want of room for it.
 pub fn print(
     h: Sizes,
     ins: &[u16],
@@ -31,31 +31,29 @@ pub fn print(
     made: Made,
     o: usize,
     pattern: &mut [u8],
-    line: &mut [u8],
-) -> usize
+) -> Line
     requires { Asked made (slices vs.old ts.old es.old) h (net.slices ins.now outs.now lefts.now rights0.now rights1.now) o
-        (length pattern.old) (length line.old) }
+        (length pattern.old) }
     ensures { Prints made
         (slices vs.old ts.old es.old)
         (slices vs.new ts.new es.new)
         h (net.slices ins.now outs.now lefts.now rights0.now rights1.now)
-        o pattern.old line.new result }
+        o pattern.old result.bytes }
 {
     match made {
         Made::At(system, count) => {
             let r = judge(
                 h, ins, outs, lefts, rights0, rights1, vs, ts, es, work, count, system, o, pattern,
             );
-            block(r, o, pattern, line)
+            block(r, o, pattern)
         }
-        Made::Full => block(Judged::RoomOut, o, pattern, line),
+        Made::Full => verdict_alone(2, o),
     }
 }
 
-// The line of a refused text; tells how many bytes.
-pub fn print_refusal(why: Refusal, line: &mut [u8]) -> usize
-    requires { 16 ≤ length line.old }
-    ensures { PrintsRefusal why line.new result }
+// The line of a refused text.
+pub fn print_refusal(why: Refusal) -> Line
+    ensures { PrintsRefusal why result.bytes }
 {
-    refused(number_of(why), line)
+    refused(number_of(why))
 }
