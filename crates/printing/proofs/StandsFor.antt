@@ -1,4 +1,4 @@
--- WHAT A PRINTED VERDICT STANDS FOR. The hypothesis `Prints` is the contract of `print` in src/lib.rt, for an output o of the net that the text gives; the line is
+-- WHAT A PRINTED VERDICT STANDS FOR. The hypothesis `Prints` is what `print` and `print_no_room` in src/lib.rt promise, for an output o of the net that the text gives; the line is
 -- what is printed. The bytes 48, 49 and 50 are `0`, `1` and `2`.
 -- Assumes nothing.
 use Prim.Native.Nat.{ℕ, ◌<◌}
@@ -7,11 +7,8 @@ use mathlib.Core.List.{List, ◌∷◌, ◌++◌, map}
 use native.Mathlib.Omega.{arith}
 use lib.ListN.{length, get_or}
 use Rattle.steps.specs.Table.{Slices}
-use Rattle.table.specs.declared.make.Made.{Made}
 use Rattle.table.specs.Lent.{room}
-use Rattle.aiger.specs.Answers.{Slices as NetSlices, net_in}
-use Rattle.aiger.specs.Net.{got, circuit}
-use Rattle.aiger.specs.declared.header.Sizes.{Sizes}
+use Rattle.aiger.specs.Net.{Net, got, circuit}
 use Rattle.verdicts.specs.Calls.{Answer, verdict_0, verdict_1, verdict_2, refusal, Left, end_with}
 use Rattle.verdicts.specs.StandsFor.{Accepts, NeverOne, LeastOne, TooFewRows, StandsFor}
 use Rattle.verdicts.specs.Verdicts.{verdict_of}
@@ -28,13 +25,13 @@ pub record LeastPrinted (text : List ℕ) (o : ℕ) (block : List ℕ) : Type 0 
 first : {xs : List ℕ} {b : ℕ} {t : List ℕ} → xs ≡ b ∷ t → get_or xs 0 0 ≡ b
 first e = ap (λ (z : List ℕ). get_or z 0 0) e
 
-module _ {made : Made} {s s' : Slices} {h : Sizes} {x : NetSlices} {o : ℕ} {p line : List ℕ} (prints : Prints made s s' h x o p line)
-    (text rest : List ℕ) (reads : circuit text ≡ got (net_in h x) rest) (there : o < length (net_in h x).outputs) (t : List ℕ) where
+module _ {net : Net} {s : Slices} {o : ℕ} {p line : List ℕ} (prints : Prints net s o p line)
+    (text rest : List ℕ) (reads : circuit text ≡ got net rest) (there : o < length net.outputs) (t : List ℕ) where
   abbrev judged : Left
-  judged = end_with (verdict_of (net_in h x) (room s) o) s p
+  judged = end_with (verdict_of net (room s) o) s p
 
   meant : StandsFor judged.answer judged.pattern text o (room s)
-  meant = verdict_stands_for text o s p (net_in h x) rest reads there (room s)
+  meant = verdict_stands_for text o s p net rest reads there (room s)
 
   -- `0` first: the text is an accepted circuit, o is one of its outputs, and at every input pattern that output is 0
   pub zero_stands_for : line ≡ 48 ∷ t → Accepts text (NeverOne o)

@@ -3,57 +3,44 @@
 
 mod line;
 
-ghost use Rattle.std.specs.Prelude.{length};
-ghost use Rattle.steps.specs.Table.{slices};
-ghost use Rattle.aiger.specs.Answers as net;
-ghost use Rattle.printing.specs.Inner.{Asked, Prints, PrintsRefusal};
+ghost use Rattle.std.specs.Prelude.{◌≡◌, List, ℕ, length};
+ghost use Rattle.steps.specs.Table.{Slices};
+ghost use Rattle.table.specs.Lent.{room};
+ghost use Rattle.table.specs.Views.{slices_of, SameLoans};
+ghost use Rattle.aiger.specs.Net as net;
+ghost use Rattle.aiger.specs.Circuit.{circuit_of};
+ghost use Rattle.verdicts.specs.Verdicts.{verdict_of, room_out};
+ghost use Rattle.outputs.specs.Inner.{Built, OutputOf};
+ghost use Rattle.printing.specs.Inner.{Prints, PrintsRefusal};
 
 pub use crate::line::Line;
 use crate::line::{block, refused, verdict_alone};
-use aiger::header::Sizes;
-use aiger::net::Refusal;
-use nets::for_circuit::number_of;
+use aiger::net::Net;
+use aiger::refusal::Refusal;
 use outputs::judge;
-use table::make::Made;
+use table::{Row, Table};
 
-// The block of output o, from the system or from the want of room for it.
-pub fn print(
-    h: Sizes,
-    ins: &[u16],
-    outs: &[u16],
-    lefts: &[u16],
-    rights0: &[u16],
-    rights1: &[u16],
-    vs: &mut [u16],
-    ts: &mut [u16],
-    es: &mut [u16],
-    work: &mut [u64],
-    made: Made,
-    o: usize,
-    pattern: &mut [u8],
-) -> Line
-    requires { Asked made (slices vs.old ts.old es.old) h (net.slices ins.now outs.now lefts.now rights0.now rights1.now) o
-        (length pattern.old) }
-    ensures { Prints made
-        (slices vs.old ts.old es.old)
-        (slices vs.new ts.new es.new)
-        h (net.slices ins.now outs.now lefts.now rights0.now rights1.now)
-        o pattern.old result.bytes }
+// The block of output o, from the system.
+pub fn print(net: &Net, t: &mut Table<'_>, system: Row, o: usize, pattern: &mut [u8]) -> Line
+    requires { OutputOf (slices_of t.old) net.now t.old.count system.0 o (length pattern.old) }
+    ensures prints { Prints (circuit_of net.now) (slices_of t.old) o pattern.old result.bytes }
+    ensures stands { Built (slices_of t.new) net.now t.new.count system.0 }
+    ensures same { SameLoans t.old t.new }
 {
-    match made {
-        Made::At(system, count) => {
-            let r = judge(
-                h, ins, outs, lefts, rights0, rights1, vs, ts, es, work, count, system, o, pattern,
-            );
-            block(r, o, pattern)
-        }
-        Made::Full => verdict_alone(2, o),
-    }
+    let verdict = judge(net, t, system, o, pattern);
+    block(verdict, o, pattern)
+}
+
+// The block of output o where there is no room for the system.
+pub fn print_no_room(o: usize) -> Line
+    ensures { (circuit : net.Net) (s : Slices) (p : List ℕ) → verdict_of circuit (room s) o ≡ room_out → Prints circuit s o p result.bytes }
+{
+    verdict_alone(2, o)
 }
 
 // The line of a refused text.
 pub fn print_refusal(why: Refusal) -> Line
     ensures { PrintsRefusal why result.bytes }
 {
-    refused(number_of(why))
+    refused(u16::from(why))
 }

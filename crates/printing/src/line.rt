@@ -1,18 +1,18 @@
 // The text of an output and of a refusal, piece by piece.
 ghost use Rattle.std.specs.Prelude.{◌+◌, ◌<◌, ◌≤◌, ◌≡◌, [], ◌∷◌, ◌++◌, map, length};
 ghost use Rattle.verdicts.specs.Calls.{verdict_1};
-ghost use Rattle.endings.specs.Answers.{answer_of_judged};
+ghost use Rattle.endings.specs.Answers.{judged, answer_of_judged};
 ghost use Rattle.printing.specs.Text as text;
 ghost use Rattle.arrayvec.specs.ArrayString.{array_string_len};
 
 use arrayvec::ArrayString;
-use endings::Judged;
+use endings::Verdict;
 
 // Text in fixed memory, with room for a pattern of 1,024 digits and 16 bytes about it. It is pushed, and not printed by an `impl Display`: by its clauses a `write!` may
 // fail, and what is printed here never does.
 pub type Line = ArrayString<1040>;
 
-// A number of at most k digits and one. The library's printing of a number is another text from 10,000 on, which `print` takes too where no output has room.
+// A number of at most k digits and one. The library's printing of a number is another text from 10,000 on, which `print_no_room` takes too.
 #[tactic(auto, using(crate::proofs::Digits::decimals))]
 fn push_decimal(line: &mut Line, k: usize, n: usize)
     requires { array_string_len line.old + k < 1040 }
@@ -74,15 +74,14 @@ fn verdict_one(o: usize, pattern: &[u8]) -> Line
 }
 
 // The block of output o.
-pub fn block(r: Judged, o: usize, pattern: &[u8]) -> Line
+pub fn block(verdict: Verdict, o: usize, pattern: &[u8]) -> Line
     requires { length pattern.now ≤ 1024 }
-    ensures { result.bytes ≡ text.block (answer_of_judged r) o pattern.now }
+    ensures { result.bytes ≡ text.block (answer_of_judged (judged verdict)) o pattern.now }
 {
-    match r {
-        Judged::Never(_) => verdict_alone(0, o),
-        Judged::Can(_) => verdict_one(o, pattern),
-        Judged::RoomOut => verdict_alone(2, o),
-        Judged::Refused(_) => Line::new(),
+    match verdict {
+        Verdict::Never(_) => verdict_alone(0, o),
+        Verdict::Can(_) => verdict_one(o, pattern),
+        Verdict::RoomOut => verdict_alone(2, o),
     }
 }
 

@@ -1,8 +1,8 @@
 use lib.ListN.{length}
-use Rattle.steps.specs.Table.{slices}
-use Rattle.aiger.specs.Answers as net
+use Rattle.table.specs.Made.{made_of}
+use Rattle.table.specs.Views.{slices_of}
 use Rattle.mullagrane.specs.Inner.{Ready}
 use Rattle.mullagrane.proofs.print_all.Given as goal
 
 abbrev pub invariant-loop-o : goal.invariant-loop-o
-invariant-loop-o g l = Ready l.made (slices l.vs l.ts l.es) l.h (net.slices l.ins l.outs l.lefts l.rights0 l.rights1) (length l.pattern)
+invariant-loop-o g l = Ready (made_of l.made l.t.count) (slices_of l.t) l.net (length l.pattern)
