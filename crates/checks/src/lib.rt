@@ -3,3 +3,4 @@
 
 pub mod check;
 pub mod finish;
+pub mod call;
