@@ -6,10 +6,17 @@ use lib.ListN.{length, replicate}
 use Rattle.steps.specs.Sound.{sound}
 use Rattle.steps.specs.Table.{Slices, rows_of}
 use Rattle.table.specs.Answers.{Refused, number_of_refusal}
-use Rattle.table.specs.Calls.{in_range, Left, left, refuse, checked}
+use Rattle.steps.specs.Steps.{Steps}
+use Rattle.table.specs.Calls.{in_range, Left, left, refuse, checked, finished, take_steps}
+use Rattle.table.specs.Inner.{Taken}
+use Rattle.table.specs.Lent.{Lent}
+use Rattle.table.specs.Made.{Made}
+use Rattle.table.specs.Views.{slices_of}
+use Rattle.table.specs.declared.Table.{Table}
+use Rattle.table.proofs.Ends.{taken_ends}
 use Rattle.table.specs.declared.Refusal.{Refusal}
 use Rattle.table.specs.declared.Refusal.TheVariants.{OutOfRange, Unsound}
-use Rattle.checks.specs.Checks.{Refuses, Fine}
+use Rattle.checks.specs.Checks.{Refuses, Fine, OnlyWork}
 use Rattle.checks.proofs.Checking.{in_range_vars}
 
 -- the checks of every call
@@ -32,6 +39,10 @@ module _ (N c : ℕ) (s : Slices) (call done : Left) (e : call ≡ checked (in_r
 
   pub call_fine : {work : List ℕ} → Fine N c s work → {r : Left} → done ≡ r → call ≡ r
   call_fine d p = e ∙ all_fine N c s (λ why. refuse why s) done d ∙ p
+
+-- the written steps were taken from a checked table
+pub steps_end : {m : Steps} {t t' : Table} {r : Made} {s' : Slices} {call : Left} → Lent t.count (slices_of t) → OnlyWork t t' → Taken m r t'.count (slices_of t') s' → finished r t'.count s' ≡ call → take_steps m t.count (slices_of t) ≡ call
+steps_end l w d e = taken_ends l (rw (w.slices, w.count) at d) ∙ rw w.count at e
 
 -- the working slice is all zeros after every call
 pub zeros_left : (work work' : List ℕ) {work'' : List ℕ} → length work' ≡ length work → work'' ≡ replicate (length work') 0 → work'' ≡ replicate (length work) 0

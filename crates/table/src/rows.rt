@@ -35,6 +35,7 @@ pub struct Rows<'a> {
 impl<'a> Rows<'a> {
     ghost use Rattle.steps.specs.Rows.{row, alike};
     ghost use Rattle.steps.specs.Table.{row_at};
+    ghost use Rattle.table.specs.Calls.{in_use};
     ghost use Rattle.table.specs.Views.{triple, viewed, shown};
 
     // The rows before row i.
@@ -49,6 +50,13 @@ impl<'a> Rows<'a> {
             es: self.es,
             count: i,
         }
+    }
+
+    // Whether k is 0, 1 or the number of a row.
+    pub fn has(&self, k: Row) -> bool
+        ensures { in_use self.now.count k.0 ≡ result }
+    {
+        (k.0 as usize) < self.count + 2
     }
 
     // Row i.
