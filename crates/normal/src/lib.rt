@@ -17,8 +17,7 @@ use table::{Refusal, Row, Table, Var};
 fn questions(rows: &Rows<'_>, k: Row, system: Row) -> Result<(), Refusal>
     ensures { Questioned result rows.now.count k.0 system.0 }
 {
-    let next = rows.count + 2;
-    if next <= k.0 as usize || next <= system.0 as usize {
+    if !(rows.has(k) && rows.has(system)) {
         return Err(Refusal::NotInUse);
     }
     if system.0 == 0 {
