@@ -17,7 +17,7 @@ use table::{Refusal, Row, Table, Var};
 fn questions(rows: &Rows<'_>, k: Row, system: Row) -> Result<(), Refusal>
     ensures { Questioned result rows.now.count k.0 system.0 }
 {
-    if !(rows.has(k) && rows.has(system)) {
+    if !rows.has(k) || !rows.has(system) {
         return Err(Refusal::NotInUse);
     }
     if system.0 == 0 {
