@@ -28,7 +28,7 @@ pub enum Verdict {
 #[derive(Clone, Copy)]
 pub enum Refusal {
     Table(table::Refusal),
-    Text(aiger::net::Refusal),
+    Text(aiger::refusal::Refusal),
     NoOutput,
     PatternLength,
 }
