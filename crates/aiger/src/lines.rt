@@ -7,7 +7,7 @@ use crate::numbers::{Fault, byte, space};
 use crate::reader::number_at;
 
 // A circuit's literal: 2v is variable v, 2v+1 its inverse; 0 and 1 are constants.
-#[derive(Clone, Copy, Debug, PartialEq, Eq)]
+#[derive(Clone, Copy, Debug, PartialEq, Eq, PartialOrd, Ord)]
 pub struct Lit(pub u16);
 
 // The left is the AND of the rights.

@@ -20,7 +20,7 @@ fn walk(rows: &Rows<'_>, n: u16, f: Row, v: Var) -> Row
 {
     let mut g = f;
     let mut a = rows.row(n, g);
-    while a.v.0 < v.0 {
+    while a.v < v {
         g = a.t;
         a = rows.row(n, g);
     }
@@ -32,7 +32,7 @@ pub fn lead_at(t: &Table<'_>, n: u16, f: Row, v: Var) -> Row
     requires { ReducingIn n t.now f.0 × (v.0 < n) }
     ensures { Skips n (rows_of (slices_of t.now) t.now.count) v.0 f.0 result.0 }
 {
-    if v.0 <= t.rows().row(n, f).v.0 {
+    if v <= t.rows().row(n, f).v {
         return f;
     }
     let from = words_used(t.vs.len(), t.work.len());
@@ -48,7 +48,7 @@ fn past(rows: &Rows<'_>, n: u16, g: Row, v: Var) -> Row
     ensures { Past n (shown rows.now) v.0 g.0 result.0 }
 {
     let a = rows.row(n, g);
-    if v.0 < a.v.0 {
+    if v < a.v {
         return g;
     }
     a.t

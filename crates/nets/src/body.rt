@@ -17,21 +17,29 @@ fn in_order(last: Lit, g: Gate) -> bool
     ensures { result ≡ net.in_order last.0 (lits_of g) }
 {
     let v = g.left.0 / 2;
-    last.0 < g.left.0 && g.right0.0 / 2 < v && g.right1.0 / 2 < v
+    last < g.left && g.right0.0 / 2 < v && g.right1.0 / 2 < v
 }
 
-// The number on line `n`.
+// The number on line `n`, with the next position. The scope names this form for a read: `let .. else` takes number and position apart, else returns the refusal.
 fn number_line(s: &[u8], at: usize, n: usize) -> Result<(u16, usize), Refusal>
     ensures { number_read s.now result ≡ net.on_line n form.number (drop at s.now) }
 {
-    line_of_number(s, at).map_err(|fault| Refusal::Form(fault, n))
+    let line = line_of_number(s, at);
+    let Ok((number, next)) = line else {
+        return Err(Refusal::Form(line.unwrap_err(), n));
+    };
+    Ok((number, next))
 }
 
-// The gate on line `n`.
+// The gate on line `n`, with the next position.
 fn gate_line(s: &[u8], at: usize, n: usize) -> Result<(Gate, usize), Refusal>
     ensures { gate_read s.now result ≡ net.on_line n form.gate (drop at s.now) }
 {
-    line_of_gate(s, at).map_err(|fault| Refusal::Form(fault, n))
+    let line = line_of_gate(s, at);
+    let Ok((gate, next)) = line else {
+        return Err(Refusal::Form(line.unwrap_err(), n));
+    };
+    Ok((gate, next))
 }
 
 // The input lines, from line 2 on, into the first `count` places.

@@ -22,7 +22,10 @@ pub fn read_net(s: &[u8]) -> Result<(Net, usize), Refusal>
     if 32768 < s.len() {
         return Err(Refusal::TooLong);
     }
-    let (sizes, end) = line_of_header(s, 0).map_err(|fault| Refusal::Form(fault, 1))?;
+    let line = line_of_header(s, 0);
+    let Ok((sizes, end)) = line else {
+        return Err(Refusal::Form(line.unwrap_err(), 1));
+    };
     if !limits(sizes) {
         return Err(Refusal::Limits);
     }

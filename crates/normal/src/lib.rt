@@ -17,8 +17,7 @@ use table::{Refusal, Row, Table, Var};
 fn questions(rows: &Rows<'_>, k: Row, system: Row) -> Result<(), Refusal>
     ensures { Questioned result rows.now.count k.0 system.0 }
 {
-    let next = rows.count + 2;
-    if next <= k.0 as usize || next <= system.0 as usize {
+    if !rows.has(k) || !rows.has(system) {
         return Err(Refusal::NotInUse);
     }
     if system.0 == 0 {
@@ -33,7 +32,7 @@ fn in_order(rows: &Rows<'_>, n: u16, lead: Var, system: Row, tail: Row) -> bool
     requires tail { tail.0 < rows.now.count + 2 }
     ensures { in_order n (shown rows.now) lead.0 system.0 tail.0 ≡ result }
 {
-    lead.0 < n && lead.0 < rows.row(n, system).v.0 && lead.0 < rows.row(n, tail).v.0
+    lead.0 < n && lead < rows.row(n, system).v && lead < rows.row(n, tail).v
 }
 
 fn equation_checked(

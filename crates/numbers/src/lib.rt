@@ -6,34 +6,16 @@ ghost use Rattle.table.specs.Answers.{answer_of};
 ghost use Rattle.table.specs.Calls.{left};
 ghost use Rattle.table.specs.Views.{slices_seen, slices_of, SameLoans};
 ghost use Rattle.numbers.specs.Answers.{valued_of, sought_of};
-ghost use Rattle.numbers.specs.Calls.{variable_call, all_bits, value_call, one_left, one_call, OneMeans};
+ghost use Rattle.table.specs.Tables.{LiveIn};
+ghost use Rattle.checks.specs.Steps.{StepsTo};
+ghost use Rattle.numbers.specs.Calls.{variable_checked, variable_call, all_bits, value_call, one_left, one_call, OneMeans};
 
 use assignments::evaluate::value_at;
 use assignments::seek::one_of;
-use checks::check::{check, check_table};
-use checks::finish::finish;
+use checks::call::call;
+use checks::check::check;
 use table::rows::{Node, View};
 use table::{Refusal, Row, Table, Var};
-
-#[tactic(auto, using(checks::proofs::Endings::refused_by, checks::proofs::Endings::all_fine), unfolding(crate::specs::Calls::variable_call))]
-fn variable_checked(n: usize, t: &mut Table<'_>, v: Var) -> Result<Row, Refusal>
-    ensures v_value { variable_call n t.old.count (slices_of t.old) v.0 ≡ left (answer_of result t.new.count) (slices_of t.new) }
-    ensures count { OnErr result (t.new.count ≡ t.old.count) }
-    ensures same { SameLoans t.old t.new }
-    ensures same_length { length t.new.work.now ≡ length t.old.work.now }
-{
-    check_table(n, t)?;
-    if n <= v.0 as usize {
-        return Err(Refusal::BadVariable);
-    }
-    let count = t.count;
-    let made = t.make(Node {
-        v,
-        t: Row(1),
-        e: Row(0),
-    });
-    finish(t, count, made)
-}
 
 // The variable x_v.
 pub fn variable(n: usize, t: &mut Table<'_>, v: Var) -> Result<Row, Refusal>
@@ -42,9 +24,21 @@ pub fn variable(n: usize, t: &mut Table<'_>, v: Var) -> Result<Row, Refusal>
     ensures same { SameLoans t.old t.new }
     ensures work_after { t.new.work.now ≡ replicate (length t.old.work.now) 0 }
 {
-    let made = variable_checked(n, t, v);
-    t.work.fill(0);
-    made
+    let steps = move |t: &mut Table<'_>, n: u16| -> Result<Row, Refusal>
+        requires { LiveIn n t.old }
+        ensures { StepsTo (variable_checked n t.old.count (slices_of t.old) v.0) result t.old t.new }
+    {
+        if n <= v.0 {
+            return Err(Refusal::BadVariable);
+        }
+        let made = t.make(Node {
+            v,
+            t: Row(1),
+            e: Row(0),
+        })?;
+        Ok(made)
+    };
+    call(n, t, steps)
 }
 
 // Whether all bytes are 0 or 1.

@@ -57,7 +57,7 @@ fn normal_deep(t: &mut Table<'_>, n: u16, p: Row, f: Row) -> Result<Row, NoRoom>
     let rows = t.rows();
     let x = rows.row(n, p);
     let y = rows.row(n, f);
-    if x.v.0 < y.v.0 {
+    if x.v < y.v {
         return normal_below(t, n, x, f);
     }
     normal_meet(t, n, x, y)

@@ -13,7 +13,7 @@ use table::{NoRoom, Row, Table};
 fn sum_key(f: Row, g: Row) -> u64
     ensures { SumKey f.0 g.0 result }
 {
-    if f.0 < g.0 {
+    if f < g {
         key(Operation::Sum, f, g)
     } else {
         key(Operation::Sum, g, f)

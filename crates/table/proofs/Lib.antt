@@ -6,3 +6,4 @@ pub mod Ends
 pub mod Enters
 pub mod Words
 pub mod Loans
+pub mod Laid

@@ -1,6 +1,5 @@
 -- The slices stay those that were lent, and a result that is an error.
-use mathlib.Core.Path.{◌≡◌, refl, ◌∙◌}
-use mathlib.Core.List.{List}
+use mathlib.Core.Path.{refl, ◌∙◌}
 use Prim.Native.Nat.{ℕ}
 use Rattle.std.specs.Prelude.{Result, Ok, Err}
 use Rattle.std.specs.Result.{IsErr}

@@ -2,8 +2,8 @@
 ghost use Rattle.std.specs.Prelude.{◌≡◌, ◌+◌, ◌*◌, ◌-◌, ◌<◌, length, set};
 ghost use Rattle.table.specs.Memory.{memory_size, reach, number_of, key_of, Size, Place, Recalls};
 
-use crate::{Row, Table};
 use crate::index::index_words;
+use crate::{Row, Table};
 
 // The operations whose results are remembered.
 #[derive(Clone, Copy)]

@@ -1,4 +1,5 @@
 use mathlib.Core.Path.{refl}
+use Rattle.std.proofs.Common.{rules}
 use Rattle.table.proofs.Loans.{same_then, kept_error}
 use Rattle.sums.proofs.Keeping.{unchanged}
 use Rattle.reduction.proofs.Deep.{form_const, form_below, form_empty, form_deep, form_full, form_key, form_recalled, form_remembered, below_asks, below_done, meet_asks, meet_done, then_full, else_asks, else_full, below_made, rest_full, rest_joins, rest_done, a_full, b_asks, b_full, rest_follows, meet_made}
@@ -33,16 +34,16 @@ normal_below-returns t c = record {
 }
 
 pub normal_deep-normal_below-requires : goal.normal_deep-normal_below-requires
-normal_deep-normal_below-requires t c = below_asks _ _ _ _ _ _ c.requires.reduces c.requires.proper _ _ _ _ _ _ (rw c.rows-rows.ensures.shown at c.row-x.ensures) (rw c.rows-rows.ensures.shown at c.row-y.ensures) c.if-x-y.true _ c.decreases
+normal_deep-normal_below-requires t c = below_asks _ _ _ _ _ _ c.requires.reduces c.requires.proper _ _ _ _ _ _ (rw c.rows-rows.ensures.shown at c.row-x.ensures) (rw c.rows-rows.ensures.shown at c.row-y.ensures) (search (rules, c.if-lt.ensures)) _ c.decreases
 
-pub normal_deep-returns-then-x-y : goal.normal_deep-returns-then-x-y
-normal_deep-returns-then-x-y t c = record { same = c.normal_below.ensures.same; kept = below_done _ _ _ _ _ _ c.requires.reduces c.requires.proper _ _ _ _ _ _ (rw c.rows-rows.ensures.shown at c.row-x.ensures) (rw c.rows-rows.ensures.shown at c.row-y.ensures) c.if-x-y.true c.normal_below.ensures.kept }
+pub normal_deep-returns-then-lt : goal.normal_deep-returns-then-lt
+normal_deep-returns-then-lt t c = record { same = c.normal_below.ensures.same; kept = below_done _ _ _ _ _ _ c.requires.reduces c.requires.proper _ _ _ _ _ _ (rw c.rows-rows.ensures.shown at c.row-x.ensures) (rw c.rows-rows.ensures.shown at c.row-y.ensures) (search (rules, c.if-lt.ensures)) c.normal_below.ensures.kept }
 
 pub normal_deep-normal_meet-requires : goal.normal_deep-normal_meet-requires
-normal_deep-normal_meet-requires t c = meet_asks _ _ _ _ _ _ c.requires.reduces c.requires.proper _ _ _ _ _ _ (rw c.rows-rows.ensures.shown at c.row-x.ensures) (rw c.rows-rows.ensures.shown at c.row-y.ensures) c.if-x-y.false _ c.decreases
+normal_deep-normal_meet-requires t c = meet_asks _ _ _ _ _ _ c.requires.reduces c.requires.proper _ _ _ _ _ _ (rw c.rows-rows.ensures.shown at c.row-x.ensures) (rw c.rows-rows.ensures.shown at c.row-y.ensures) (search (rules, c.if-lt.ensures)) _ c.decreases
 
 pub normal_deep-returns : goal.normal_deep-returns
-normal_deep-returns t c = record { same = c.normal_meet.ensures.same; kept = meet_done _ _ _ _ _ _ c.requires.reduces c.requires.proper _ _ _ _ _ _ (rw c.rows-rows.ensures.shown at c.row-x.ensures) (rw c.rows-rows.ensures.shown at c.row-y.ensures) c.if-x-y.false c.normal_meet.ensures.kept }
+normal_deep-returns t c = record { same = c.normal_meet.ensures.same; kept = meet_done _ _ _ _ _ _ c.requires.reduces c.requires.proper _ _ _ _ _ _ (rw c.rows-rows.ensures.shown at c.row-x.ensures) (rw c.rows-rows.ensures.shown at c.row-y.ensures) (search (rules, c.if-lt.ensures)) c.normal_meet.ensures.kept }
 
 pub normal_form-returns-then-p-lt2 : goal.normal_form-returns-then-p-lt2
 normal_form-returns-then-p-lt2 t c = unchanged c.requires.by.live (form_const _ _ _ _ _ _ c.requires c.if-p-lt2.true)
