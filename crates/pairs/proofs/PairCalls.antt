@@ -1,11 +1,12 @@
 -- What a call on two numbers means.
 use Prim.Native.Nat.{ℕ, ◌<◌}
 use mathlib.Core.Path.{◌≡◌}
-use mathlib.Core.Bool.{Bool, ◌&&◌}
+use mathlib.Core.Bool.{Bool, true, ◌&&◌}
+use mathlib.Core.List.{List}
 use native.Mathlib.Omega.{arith}
 use borrow.Author.Tests.{ltb-true}
 use Rattle.std.specs.Bool.{xor}
-use Rattle.steps.specs.Rows.{Assignment, Rows, value, next}
+use Rattle.steps.specs.Rows.{Assignment, value, next}
 use Rattle.steps.specs.Sound.{Sound}
 use Rattle.steps.specs.Steps.{Steps, sum, product}
 use Rattle.steps.specs.Table.{Slices, rows_of}
@@ -15,7 +16,9 @@ use Rattle.steps.proofs.Table.{rows_of_next}
 use Rattle.steps.proofs.Theorems.{value_of_sum, value_of_product}
 use Rattle.table.specs.Answers.{Answer, Made, Refused}
 use Rattle.table.specs.Calls.{in_use, left, take_steps, IfMade}
+use Rattle.table.specs.Memory.{Live}
 use Rattle.table.proofs.Laid.{steps_made}
+use Rattle.sums.specs.Inner.{Pair}
 use Rattle.checks.proofs.CallEnds.{unless_made, checked_made}
 use Rattle.pairs.specs.Calls.{pair_checked, pair_call, Means, Answered}
 
@@ -35,6 +38,10 @@ module _ (op : Bool → Bool → Bool) (N : ℕ) (m : Steps) (c : ℕ) (s : Slic
 
   pub pair_answered : {r : Answer} {s' : Slices} → pair_call N m c s f g ≡ left r s' → Answered op (pair_call N m c s f g) r c s s' f g
   pair_answered {r} {s'} e = record { is = e; means = means r s' e }
+
+-- numbers in use are what the steps ask
+pub pair_in : {N c : ℕ} {s : Slices} {work : List ℕ} {f g : ℕ} → Live N c s work → in_use c f ≡ true → in_use c g ≡ true → Pair N c s work f g
+pair_in d p q = record { live = d; left = ltb-true _ _ p; right = ltb-true _ _ q }
 
 pub sum_answered : (N c : ℕ) (s : Slices) (f g : ℕ) {r : Answer} {s' : Slices} → pair_call N (sum N f g) c s f g ≡ left r s' → Answered xor (pair_call N (sum N f g) c s f g) r c s s' f g
 sum_answered N c s f g = pair_answered xor N (sum N f g) c s f g (λ d uf ug a. value_of_sum N (rows_of s c) d f g uf ug a)

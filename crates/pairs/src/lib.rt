@@ -3,23 +3,46 @@
 
 ghost use Rattle.std.specs.Prelude.{◌≡◌, ◌&&◌, length, replicate, OnErr};
 ghost use Rattle.std.specs.Bool.{xor};
-ghost use Rattle.steps.specs.Steps as Steps;
+ghost use Rattle.steps.specs.Steps.{Steps};
 ghost use Rattle.table.specs.Answers.{answer_of};
-ghost use Rattle.table.specs.Calls.{in_use};
+ghost use Rattle.table.specs.Calls.{in_use, left};
 ghost use Rattle.table.specs.Tables.{LiveIn};
 ghost use Rattle.table.specs.Views.{slices_of, SameLoans};
-ghost use Rattle.checks.specs.Steps.{StepsTo};
-ghost use Rattle.pairs.specs.Calls.{pair_checked, sum_call, product_call, Answered};
+ghost use Rattle.checks.specs.Steps.{Kept, StepsTo};
+ghost use Rattle.pairs.specs.Calls.{pair_checked, pair_call, sum_call, product_call, Answered};
+ghost use Rattle.pairs.specs.Inner.{MayTake, Takes};
 
 use checks::call::call;
-use table::rows::Rows;
-use table::{Refusal, Row, Table};
+use table::{NoRoom, Refusal, Row, Table};
 
-// Whether both are 0, 1 or rows' numbers.
-fn in_use(rows: &Rows<'_>, f: Row, g: Row) -> bool
-    ensures { (in_use rows.now.count f.0 && in_use rows.now.count g.0) ≡ result }
+// The call on f and g with these written steps.
+fn pair<F>(n: usize, t: &mut Table<'_>, f: Row, g: Row, written: F) -> Result<Row, Refusal>
+where
+    F: FnOnce(&mut Table<'_>, u16, Row, Row) -> Result<Row, NoRoom>,
+    requires may_take { MayTake n f g (F.pre written) }
+    requires takes { (m : Steps) × Takes n f g (F.post written) m }
+    ensures call { (m : Steps) → Takes n f g (F.post written) m
+        → pair_call n m t.old.count (slices_of t.old) f.0 g.0 ≡ left (answer_of result t.new.count) (slices_of t.new) }
+    ensures count { OnErr result (t.new.count ≡ t.old.count) }
+    ensures same { SameLoans t.old t.new }
+    ensures work_after { t.new.work.now ≡ replicate (length t.old.work.now) 0 }
 {
-    rows.has(f) && rows.has(g)
+    let steps = move |t: &mut Table<'_>, n: u16| -> Result<Row, Refusal>
+        requires live { LiveIn n t.old }
+        requires may_take { MayTake n f g (F.pre written) }
+        requires takes { (m : Steps) × Takes n f g (F.post written) m }
+        ensures kept { Kept t.old t.new }
+        ensures steps { (m : Steps) → Takes n f g (F.post written) m
+            → StepsTo (pair_checked m t.old.count (slices_of t.old) f.0 g.0) result t.old t.new }
+    {
+        let rows = t.rows();
+        if !rows.has(f) || !rows.has(g) {
+            return Err(Refusal::NotInUse);
+        }
+        let made = written(t, n, f, g)?;
+        Ok(made)
+    };
+    call(n, t, steps)
 }
 
 // The sum f + g.
@@ -30,17 +53,7 @@ pub fn sum(n: usize, t: &mut Table<'_>, f: Row, g: Row) -> Result<Row, Refusal>
     ensures same { SameLoans t.old t.new }
     ensures work_after { t.new.work.now ≡ replicate (length t.old.work.now) 0 }
 {
-    let steps = move |t: &mut Table<'_>, n: u16| -> Result<Row, Refusal>
-        requires { LiveIn n t.old }
-        ensures { StepsTo (pair_checked (Steps.sum n f.0 g.0) t.old.count (slices_of t.old) f.0 g.0) result t.old t.new }
-    {
-        if !in_use(&t.rows(), f, g) {
-            return Err(Refusal::NotInUse);
-        }
-        let made = sums::written::sum(t, n, f, g)?;
-        Ok(made)
-    };
-    call(n, t, steps)
+    pair(n, t, f, g, sums::written::sum)
 }
 
 // The product f·g.
@@ -51,15 +64,5 @@ pub fn product(n: usize, t: &mut Table<'_>, f: Row, g: Row) -> Result<Row, Refus
     ensures same { SameLoans t.old t.new }
     ensures work_after { t.new.work.now ≡ replicate (length t.old.work.now) 0 }
 {
-    let steps = move |t: &mut Table<'_>, n: u16| -> Result<Row, Refusal>
-        requires { LiveIn n t.old }
-        ensures { StepsTo (pair_checked (Steps.product n f.0 g.0) t.old.count (slices_of t.old) f.0 g.0) result t.old t.new }
-    {
-        if !in_use(&t.rows(), f, g) {
-            return Err(Refusal::NotInUse);
-        }
-        let made = products::written::product(t, n, f, g)?;
-        Ok(made)
-    };
-    call(n, t, steps)
+    pair(n, t, f, g, products::written::product)
 }
