@@ -16,6 +16,7 @@ fn follow(rows: &Rows<'_>, f: Row, bytes: &mut [u8])
     ensures { bytes.new ≡ bytes_of (length bytes.old) (one (shown rows.now) f.0) }
 {
     let mut k = f;
+    // a walk from row to row: no index is counted
     while 2 <= k.0 {
         let x = rows.node(k.0 as usize - 2);
         if x.e.0 == 0 {

@@ -20,6 +20,7 @@ fn walk(rows: &Rows<'_>, n: u16, f: Row, v: Var) -> Row
 {
     let mut g = f;
     let mut a = rows.row(n, g);
+    // a walk along then-parts: no index is counted
     while a.v < v {
         g = a.t;
         a = rows.row(n, g);

@@ -11,6 +11,7 @@ pub fn read_full<R: Read>(from: &mut R, buffer: &mut [u8]) -> io::Result<usize>
     ensures { IfOk result (λ n. n ≤ length buffer.new) }
 {
     let mut done = 0;
+    // each turn goes on by as much as was read, so there is nothing to count
     while done < buffer.len() {
         let n = from.read(&mut buffer[done..])?;
         if n == 0 {

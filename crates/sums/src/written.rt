@@ -35,6 +35,7 @@ pub fn sum(t: &mut Table<'_>, n: u16, f: Row, g: Row) -> Result<Row, NoRoom>
     if f == g {
         return Ok(Row(0));
     }
+    // The product and the normal form look up and remember alike. One function for all three would take the steps as a closure, whose clauses are longer than these lines.
     let slot = t.slot(sum_key(f, g));
     if let Some(k) = t.recall(slot) {
         return Ok(k);

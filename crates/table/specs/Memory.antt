@@ -34,10 +34,11 @@ reach R L = index_words R L + memory_size R (L - index_words R L)
 unfoldable pub steps_of : ℕ → ℕ → ℕ → ℕ → Steps
 steps_of N op f g = cond (eqb op 1) (sum N f g) (cond (eqb op 2) (product N f g) (normal N f g))
 
-abbrev pub number_of : Operation → ℕ
-number_of Sum = 1
-number_of Product = 2
-number_of NormalForm = 3
+-- the same of the code's operations
+abbrev pub code_of : Operation → ℕ
+code_of Sum = 1
+code_of Product = 2
+code_of NormalForm = 3
 
 -- the key of an operation on f and g; no operation is 0, so that no key is that of a zero
 abbrev pub key_of : ℕ → ℕ → ℕ → ℕ

@@ -93,6 +93,7 @@ pub fn find(rows: &Rows<'_>, work: &[u64], b: Bucket, x: Node) -> Option<Row>
         return search(rows, x);
     }
     let mut k = head(work, b.number);
+    // a walk along links, from newer rows to older: no index is counted
     while 0 < k {
         let i = k - 2;
         if rows.is(i, x) {

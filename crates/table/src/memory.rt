@@ -1,6 +1,6 @@
 // For the crates above: remembered results, in the words of the working slice behind the index.
 ghost use Rattle.std.specs.Prelude.{◌≡◌, ◌+◌, ◌*◌, ◌-◌, ◌<◌, length, set};
-ghost use Rattle.table.specs.Memory.{memory_size, reach, number_of, key_of, Size, Place, Recalls};
+ghost use Rattle.table.specs.Memory.{memory_size, reach, code_of, key_of, Size, Place, Recalls};
 
 use crate::index::index_words;
 use crate::{Row, Table};
@@ -22,7 +22,7 @@ pub struct Slot {
 
 // The key of an operation on f and g.
 pub fn key(op: Operation, f: Row, g: Row) -> u64
-    ensures { key_of (number_of op) f.0 g.0 ≡ result }
+    ensures { key_of (code_of op) f.0 g.0 ≡ result }
 {
     (op as u64 * 65536 + f.0 as u64) * 65536 + g.0 as u64
 }
