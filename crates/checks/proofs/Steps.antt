@@ -1,42 +1,36 @@
 -- The written steps, taken in a call.
-use Prim.Native.Nat.{ℕ}
-use mathlib.Core.Path.{◌≡◌}
+use mathlib.Core.Path.{◌≡◌, refl}
 use lib.ListN.{length}
 use Rattle.std.specs.Prelude.{Result, Ok, Err}
 use Rattle.steps.specs.Steps.{Steps}
 use Rattle.table.specs.declared.Row.{Row}
-use Rattle.table.specs.declared.NoRoom.{NoRoom}
 use Rattle.table.specs.declared.Table.{Table}
 use Rattle.table.specs.Calls.{take_steps}
 use Rattle.table.specs.Inner.{Taken}
 use Rattle.table.specs.Lent.{Lent}
-use Rattle.table.specs.Made.{Made, Full}
+use Rattle.table.specs.Made.{Made, At, Full}
 use Rattle.table.specs.declared.Refusal.{Refusal}
 use Rattle.table.specs.declared.Refusal.TheVariants.{RoomOut}
 use Rattle.std.specs.Result.{IsErrAnd}
-use Rattle.table.specs.Tables.{EnteredIn, KeptIn}
 use Rattle.table.specs.Views.{slices_of, SameLoans}
 use Rattle.table.proofs.Ends.{taken_ends}
 use Rattle.table.proofs.Takes.{taken_lends}
+use Rattle.table.proofs.Loans.{same}
 use Rattle.checks.specs.Steps.{Kept, StepsTo}
 
-module _ {m : Steps} {t t' : Table} (l : Lent t.count (slices_of t)) where
-  kept : {r : Made} → SameLoans t t' → length t'.work.now ≡ length t.work.now → Taken m r t.count (slices_of t) (slices_of t') → Kept t t'
-  kept a w d = record { same = a; lent = taken_lends l d; length = w }
+-- nothing was done
+pub unchanged : {t : Table} → Lent t.count (slices_of t) → Kept t t
+unchanged l = record { same = same; lent = l; length = refl }
 
-  -- room has run out, as a call's refusal says
-  full : (r : Result Row Refusal) → IsErrAnd r (λ why. why ≡ RoomOut) → Kept t t' → Taken m Full t.count (slices_of t) (slices_of t') → StepsTo (take_steps m t.count (slices_of t)) r t t'
-  full (Ok k) h a d = absurd h
-  full (Err why) h a d = rw h (record { kept = a; ends = taken_ends l d })
+module _ {m : Steps} {t t' : Table} (l : Lent t.count (slices_of t)) (a : SameLoans t t') (w : length t'.work.now ≡ length t.work.now) where
+  kept : {r : Made} → Taken m r t.count (slices_of t) (slices_of t') → Kept t t'
+  kept d = record { same = a; lent = taken_lends l d; length = w }
 
-  pub entered_to : {k : Row} → EnteredIn m (Ok k) t t' → StepsTo (take_steps m t.count (slices_of t)) (Ok k) t t'
-  entered_to d = record { kept = kept d.same d.entered.front.same_length d.entered.taken; ends = taken_ends l d.entered.taken }
+  -- a number was made
+  pub made_to : {k : Row} → Taken m (At k t'.count) t.count (slices_of t) (slices_of t') → StepsTo (take_steps m t.count (slices_of t)) (Ok k) t t'
+  made_to d = record { kept = kept d; ends = taken_ends l d }
 
-  pub entered_full : {e : NoRoom} (r : Result Row Refusal) → IsErrAnd r (λ why. why ≡ RoomOut) → EnteredIn m (Err e) t t' → StepsTo (take_steps m t.count (slices_of t)) r t t'
-  entered_full r h d = full r h (kept d.same d.entered.front.same_length d.entered.taken) d.entered.taken
-
-  pub kept_to : {N : ℕ} {k : Row} → KeptIn N m (Ok k) t t' → StepsTo (take_steps m t.count (slices_of t)) (Ok k) t t'
-  kept_to d = record { kept = kept d.same d.kept.behind.same_length d.kept.taken; ends = taken_ends l d.kept.taken }
-
-  pub kept_full : {N : ℕ} {e : NoRoom} (r : Result Row Refusal) → IsErrAnd r (λ why. why ≡ RoomOut) → KeptIn N m (Err e) t t' → StepsTo (take_steps m t.count (slices_of t)) r t t'
-  kept_full r h d = full r h (kept d.same d.kept.behind.same_length d.kept.taken) d.kept.taken
+  -- room has run out, and the call's result says so
+  pub full_to : (r : Result Row Refusal) → IsErrAnd r (λ why. why ≡ RoomOut) → Taken m Full t.count (slices_of t) (slices_of t') → StepsTo (take_steps m t.count (slices_of t)) r t t'
+  full_to (Ok k) h d = absurd h
+  full_to (Err why) h d = rw h (record { kept = kept d; ends = taken_ends l d })

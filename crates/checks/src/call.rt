@@ -10,7 +10,7 @@ use crate::check::check_table;
 use crate::finish::free_rows;
 use table::{Refusal, Row, Table};
 
-#[tactic(auto, using(crate::proofs::Endings::refused_by, crate::proofs::Endings::all_fine, crate::proofs::Checking::in_range_vars))]
+#[tactic(auto, using(crate::proofs::Findings::refused_by, crate::proofs::Findings::all_fine, crate::proofs::Checking::in_range_vars))]
 fn checked<F>(n: usize, t: &mut Table<'_>, steps: F) -> Result<Row, Refusal>
 where
     F: FnOnce(&mut Table<'_>, u16) -> Result<Row, Refusal>,

@@ -4,11 +4,12 @@
 ghost use Rattle.std.specs.Prelude.{◌≡◌, ◌<◌, ◌+◌, length, replicate, OnErr};
 ghost use Rattle.table.specs.Answers.{answer_of};
 ghost use Rattle.table.specs.Calls.{Does};
+ghost use Rattle.table.specs.Tables.{LiveIn};
 ghost use Rattle.table.specs.Views.{shown, slices_of, SameLoans};
-ghost use Rattle.normal.specs.Calls.{Questioned, in_order, equation_call, Adds, normal_call, Reduced};
+ghost use Rattle.checks.specs.Steps.{StepsTo};
+ghost use Rattle.normal.specs.Calls.{Questioned, in_order, equation_checked, equation_call, Adds, normal_checked, normal_call, Reduced};
 
-use checks::check::check_table;
-use checks::finish::finish;
+use checks::call::call;
 use reduction::reduce;
 use table::rows::{Node, Rows};
 use table::{Refusal, Row, Table, Var};
@@ -35,35 +36,6 @@ fn in_order(rows: &Rows<'_>, n: u16, lead: Var, system: Row, tail: Row) -> bool
     lead.0 < n && lead < rows.row(n, system).v && lead < rows.row(n, tail).v
 }
 
-fn equation_checked(
-    n: usize,
-    t: &mut Table<'_>,
-    lead: Var,
-    system: Row,
-    tail: Row,
-) -> Result<Row, Refusal>
-    ensures does { Does (Adds t.old.count (slices_of t.old) lead.0 system.0 tail.0)
-        (equation_call n t.old.count (slices_of t.old) lead.0 system.0 tail.0)
-        (answer_of result t.new.count) (slices_of t.new) }
-    ensures count { OnErr result (t.new.count ≡ t.old.count) }
-    ensures same { SameLoans t.old t.new }
-    ensures length { length t.new.work.now ≡ length t.old.work.now }
-{
-    check_table(n, t)?;
-    let rows = t.rows();
-    questions(&rows, tail, system)?;
-    if !in_order(&rows, n as u16, lead, system, tail) {
-        return Err(Refusal::BadVariable);
-    }
-    let count = t.count;
-    let made = t.make(Node {
-        v: lead,
-        t: system,
-        e: tail,
-    });
-    finish(t, count, made)
-}
-
 // The system with the equation x_lead + tail = 0 added.
 pub fn equation(
     n: usize,
@@ -79,24 +51,23 @@ pub fn equation(
     ensures same { SameLoans t.old t.new }
     ensures work_after { t.new.work.now ≡ replicate (length t.old.work.now) 0 }
 {
-    let made = equation_checked(n, t, lead, system, tail);
-    t.work.fill(0);
-    made
-}
-
-fn normal_checked(n: usize, t: &mut Table<'_>, p: Row, f: Row) -> Result<Row, Refusal>
-    ensures does { Does (Reduced t.old.count (slices_of t.old) p.0 f.0)
-        (normal_call n t.old.count (slices_of t.old) p.0 f.0)
-        (answer_of result t.new.count) (slices_of t.new) }
-    ensures count { OnErr result (t.new.count ≡ t.old.count) }
-    ensures same { SameLoans t.old t.new }
-    ensures length { length t.new.work.now ≡ length t.old.work.now }
-{
-    check_table(n, t)?;
-    questions(&t.rows(), p, f)?;
-    let count = t.count;
-    let made = reduce(t, n as u16, p, f);
-    finish(t, count, made)
+    let steps = move |t: &mut Table<'_>, n: u16| -> Result<Row, Refusal>
+        requires { LiveIn n t.old }
+        ensures { StepsTo (equation_checked n t.old.count (slices_of t.old) lead.0 system.0 tail.0) result t.old t.new }
+    {
+        let rows = t.rows();
+        questions(&rows, tail, system)?;
+        if !in_order(&rows, n, lead, system, tail) {
+            return Err(Refusal::BadVariable);
+        }
+        let made = t.make(Node {
+            v: lead,
+            t: system,
+            e: tail,
+        })?;
+        Ok(made)
+    };
+    call(n, t, steps)
 }
 
 // The normal form of p by the system f.
@@ -108,7 +79,13 @@ pub fn normal_form(n: usize, t: &mut Table<'_>, p: Row, f: Row) -> Result<Row, R
     ensures same { SameLoans t.old t.new }
     ensures work_after { t.new.work.now ≡ replicate (length t.old.work.now) 0 }
 {
-    let made = normal_checked(n, t, p, f);
-    t.work.fill(0);
-    made
+    let steps = move |t: &mut Table<'_>, n: u16| -> Result<Row, Refusal>
+        requires { LiveIn n t.old }
+        ensures { StepsTo (normal_checked n t.old.count (slices_of t.old) p.0 f.0) result t.old t.new }
+    {
+        questions(&t.rows(), p, f)?;
+        let made = reduce(t, n, p, f)?;
+        Ok(made)
+    };
+    call(n, t, steps)
 }

@@ -48,7 +48,7 @@ fn all_bits(bytes: &[u8]) -> bool
     bytes.iter().all(|b| *b < 2)
 }
 
-#[tactic(auto, using(checks::proofs::Endings::refused_by, checks::proofs::Endings::all_fine), unfolding(crate::specs::Calls::value_call))]
+#[tactic(auto, using(checks::proofs::Findings::refused_by, checks::proofs::Findings::all_fine), unfolding(crate::specs::Calls::value_call))]
 fn value_checked(
     n: usize,
     view: &View<'_>,
@@ -87,7 +87,7 @@ pub fn value(
     value
 }
 
-#[tactic(auto, using(checks::proofs::Endings::refused_by, checks::proofs::Endings::all_fine), unfolding(crate::specs::Calls::one_call))]
+#[tactic(auto, using(checks::proofs::Findings::refused_by, checks::proofs::Findings::all_fine), unfolding(crate::specs::Calls::one_call))]
 fn one_checked(
     n: usize,
     view: &View<'_>,

@@ -2,20 +2,18 @@
 use Prim.Native.Nat.{ℕ, zero, suc, ◌<◌, ◌≤◌}
 use mathlib.Core.Path.{◌≡◌, refl, sym, ap, ◌∙◌}
 use mathlib.Core.Bool.{Bool, true, false}
-use mathlib.Core.List.{List, [], ◌∷◌, ◌++◌}
+use mathlib.Core.List.{List}
 use native.Mathlib.Omega.{arith}
 use lib.Dec.{eqb, ltb}
-use lib.ListN.{length, drop, length-append}
-use lib.Seq.{append_snoc, get_or_at}
+use lib.ListN.{length}
 use borrow.Author.Tests.{eqb-true, eqb-false, eq-eqb, ne_eqb, ltb-true, ltb-false, lt-ltb, le-ltb}
 use Rattle.steps.specs.One.{one}
 use Rattle.steps.specs.Room.{made, within}
-use Rattle.steps.specs.Rows.{Row, Rows, none, ◌▹◌, count}
+use Rattle.steps.specs.Rows.{count}
 use Rattle.steps.specs.Steps.{Answer as StepsAnswer}
-use Rattle.steps.specs.Table.{Slices, slices, rows_of}
+use Rattle.steps.specs.Table.{Slices}
 use Rattle.steps.proofs.Room.{Fit, fits, over, fit}
 use Rattle.table.specs.Lent.{room}
-use Rattle.table.specs.Calls.{column, laid}
 pub use Rattle.table.proofs.Laid.{laid_rows}
 use Rattle.aiger.specs.Answers.{number_of_refusal}
 use Rattle.aiger.specs.Net.{Got, got, refused, Net, circuit}

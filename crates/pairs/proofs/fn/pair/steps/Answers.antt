@@ -1,5 +1,5 @@
 use mathlib.Core.Path.{◌∙◌}
-use Rattle.checks.proofs.Steps.{kept_to, kept_full}
+use Rattle.checks.proofs.Steps.{made_to, full_to}
 use Rattle.pairs.proofs.PairCalls.{pair_in}
 use Rattle.pairs.proofs.fn.pair.steps.Goals as goal
 
@@ -9,9 +9,12 @@ returns-in_err-made g c =
     let g_in = rw c.rows-rows.ensures.count at (c.has-else-not-has.ensures ∙ c.if-not-has-2.false) in
     let pair = pair_in c.requires.live f_in g_in in
     let lent = c.requires.live.indexed.lent in
+    let d = c.requires.takes.1 _ _ _ pair c.in_err-made.ensures in
     record {
-      kept = (kept_full lent _ c.from_residual.ensures.1 (c.requires.takes.1 _ _ _ pair c.in_err-made.ensures)).kept;
-      steps = λ m k. simp (f_in, g_in) (kept_full lent _ c.from_residual.ensures.1 (k _ _ _ pair c.in_err-made.ensures));
+      kept = (full_to lent d.same d.kept.behind.same_length _ c.from_residual.ensures.1 d.kept.taken).kept;
+      steps = λ m k.
+          let e = k _ _ _ pair c.in_err-made.ensures in
+          simp (f_in, g_in) (full_to lent e.same e.kept.behind.same_length _ c.from_residual.ensures.1 e.kept.taken);
     }
 
 pub returns : goal.returns
@@ -20,7 +23,10 @@ returns g c =
     let g_in = rw c.rows-rows.ensures.count at (c.has-else-not-has.ensures ∙ c.if-not-has-2.false) in
     let pair = pair_in c.requires.live f_in g_in in
     let lent = c.requires.live.indexed.lent in
+    let d = c.requires.takes.1 _ _ _ pair c.in_ok-made.ensures in
     record {
-      kept = (kept_to lent (c.requires.takes.1 _ _ _ pair c.in_ok-made.ensures)).kept;
-      steps = λ m k. simp (f_in, g_in) (kept_to lent (k _ _ _ pair c.in_ok-made.ensures));
+      kept = (made_to lent d.same d.kept.behind.same_length d.kept.taken).kept;
+      steps = λ m k.
+          let e = k _ _ _ pair c.in_ok-made.ensures in
+          simp (f_in, g_in) (made_to lent e.same e.kept.behind.same_length e.kept.taken);
     }
