@@ -14,8 +14,8 @@ use Rattle.std.proofs.Common.{if◌then◌else◌}
 use Rattle.aiger.specs.Form.{number, line, Gate, gate, Header, header}
 use Rattle.aiger.specs.Net.{Got, got, refused, Part, go_on, ◌>>=◌, at_line, on_line, check, defined, fresh, input_lines, output_lines, in_order, rights_defined, lefts, gate_lines, known, Unknown, at, nowhere, unknown_output, all_known, limits, Net, body, circuit}
 use Rattle.aiger.specs.Accepted.{New, News, InOrder, GateOk, Chain, Knowns, Accepted, Ascending}
-use Rattle.aiger.specs.declared.net.Refusal.{Refusal}
-use Rattle.aiger.specs.declared.net.Refusal.TheVariants.{TooLong, Limits, Literal, Order}
+use Rattle.aiger.specs.declared.refusal.Refusal.{Refusal}
+use Rattle.aiger.specs.declared.refusal.Refusal.TheVariants.{TooLong, Limits, Literal, Order}
 use Rattle.aiger.proofs.Bools.{split_and}
 use Rattle.aiger.proofs.WholeNet.{Within, within}
 
@@ -161,7 +161,7 @@ module _ (h : Header) where
   abbrev to_output_lines : List ℕ → Part Net
   to_output_lines is = output_lines (h.I + 2) h.O [] >>= to_gates is
 
-  body_ok : (t : List ℕ) (net : Net) (rest : List ℕ) → Within h → body h t ≡ got net rest → Accepted net
+  pub body_ok : (t : List ℕ) (net : Net) (rest : List ℕ) → Within h → body h t ≡ got net rest → Accepted net
   unfolding body
   body_ok t net rest w e =
       let a = both (input_lines h.M h.I [] t) to_output_lines net rest e in

@@ -1,14 +1,16 @@
 -- What each read finds at a position of a text. Assumes nothing.
 use Prim.Native.Nat.{ℕ, ◌+◌, ◌*◌, ◌-◌, ◌<◌, ◌≤◌}
-use mathlib.Core.Path.{◌≡◌}
-use mathlib.Core.Bool.{true, false}
+use mathlib.Core.Path.{◌≡◌, refl, ap, ◌∙◌}
+use mathlib.Core.Bool.{Bool, true, false}
 use mathlib.Core.List.{List, [], ◌∷◌}
 use native.Mathlib.Numerals.{add-one}
+use native.Mathlib.Nat.{le_refl}
 use lib.Dec.{eqb, leb}
-use borrow.Author.Tests.{leb-true, le-leb, lt-leb}
-use lib.ListN.{length, get_or, drop, drop_of_length-le}
+use borrow.Author.Tests.{le-leb, lt-leb}
+use lib.ListN.{take, length, get_or, drop, drop_of_length-le}
 use lib.Seq.{drop-cons}
-use Rattle.aiger.proofs.Bools.{split_and}
+use Rattle.std.specs.List.{list_any}
+use Rattle.std.proofs.lemmas.List.{take_rest}
 use Rattle.aiger.specs.declared.numbers.Fault.TheVariants.{BadNumber, Other}
 use Rattle.aiger.specs.Form.{read, fault, digit, digits, zero_alone, number, space, byte, newline_left}
 
@@ -16,10 +18,6 @@ module _ (s : List ℕ) (at : ℕ) where
   module _ (h : length s ≤ at) where
     pub none_left : drop at s ≡ []
     none_left = drop_of_length-le s h
-
-    pub digits_end : (n : ℕ) → digits n (drop at s) ≡ read n (drop at s)
-    unfolding digits
-    digits_end n = rw none_left
 
     pub zero_end : zero_alone (drop at s) ≡ read 0 (drop at s)
     unfolding zero_alone
@@ -40,6 +38,11 @@ module _ (s : List ℕ) (at : ℕ) where
     pub newline_end : newline_left (drop at s) ≡ false
     unfolding newline_left
     newline_end = rw none_left
+
+    -- the end of the digits may be named by the text's length
+    pub digits_all : (n : ℕ) → digits n (drop at s) ≡ read n (drop (length s) s)
+    unfolding digits
+    digits_all n = rw (none_left, drop_of_length-le s (le_refl (length s)))
 
   module _ (h : at < length s) where
     pub front : drop at s ≡ get_or s at 0 ∷ drop (at + 1) s
@@ -104,13 +107,11 @@ module _ (s : List ℕ) (at : ℕ) where
     unfolding byte
     byte_other b e = rw (front, e)
 
-    pub newline_here : eqb (get_or s at 0) 10 ≡ true → newline_left (drop at s) ≡ true
-    unfolding newline_left
-    newline_here e = rw (front, e)
+-- a newline is left where some byte is one
+any_newline : (xs : List ℕ) → list_any (λ x. eqb x 10) xs ≡ newline_left xs
+unfolding newline_left
+any_newline [] = refl
+any_newline (x ∷ xs) = rw (any_newline xs)
 
-    pub newline_on : eqb (get_or s at 0) 10 ≡ false → newline_left (drop at s) ≡ newline_left (drop (at + 1) s)
-    unfolding newline_left
-    newline_on e = rw (front, e)
-
-pub digit_range : (x : ℕ) → digit x ≡ true → (48 ≤ x) × (x ≤ 57)
-digit_range x e = let p = split_and (leb 48 x) (leb x 57) e in (leb-true 48 x p.0, leb-true x 57 p.1)
+pub any_from : (s : List ℕ) (from : ℕ) (r : Bool) → r ≡ list_any (λ x. eqb x 10) (take (length s - from) (drop from s)) → r ≡ newline_left (drop from s)
+any_from s from r e = e ∙ ap (list_any (λ x. eqb x 10)) (take_rest s from) ∙ any_newline (drop from s)

@@ -1,13 +1,11 @@
 -- What crates above cite
 pub mod Accepted
 pub mod WholeNet
-pub mod InSlices
 pub mod Valued
 pub mod Unique
 -- For the crate nets: the laws of its reading
 pub mod Bools
 pub mod AtPosition
-pub mod OnLine
 pub mod Marking
 pub mod LiteralLines
 pub mod GateLines

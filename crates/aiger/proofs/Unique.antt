@@ -2,8 +2,7 @@
 use Prim.Native.Nat.{ℕ}
 use mathlib.Core.Path.{◌≡◌, sym, ◌∙◌}
 use mathlib.Core.List.{List}
-use Rattle.aiger.specs.Answers.{text_call}
-use Rattle.aiger.specs.declared.Answer.{Answer}
+use Rattle.aiger.specs.Answers.{Answer, text_call}
 
 -- any two answers that the contract of `text` allows for a text coincide
 pub unique : (s : List ℕ) (r r' : Answer) → r ≡ text_call s → r' ≡ text_call s → r ≡ r'

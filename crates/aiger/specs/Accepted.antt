@@ -1,6 +1,8 @@
 -- What the net of every accepted text satisfies (`accepted`, proofs/Accepted.antt).
 -- Assumes nothing: these are definitions.
 use Rattle.std.specs.Prelude.{ℕ, ◌+◌, ◌*◌, ◌/◌, ◌%◌, ◌<◌, ◌≤◌, ◌≡◌, true, false, List, [], ◌∷◌, ◌++◌, length}
+use Rattle.std.specs.Coded.{×_prop, Unit-prop, le_prop}
+use Rattle.std.proofs.Props.{props}
 use Rattle.aiger.specs.Form.{Gate}
 use Rattle.aiger.specs.Net.{defined, lefts, Net}
 
@@ -46,6 +48,35 @@ pub record Accepted (net : Net) : Type 0 where
   pub inputs_new : News net.M [] net.inputs
   pub gates_chain : Chain net.M net.inputs 0 [] net.gates
   pub outputs_known : Knowns net.M (net.inputs ++ lefts net.gates) net.outputs
+
+-- each of these facts has one proof at most, so that a net may keep the last
+
+New-prop : (M : ℕ) (ls : List ℕ) (l : ℕ) → IsProp (New M ls l)
+New-prop M ls l = Prim.hlevel props
+
+News-prop : (M : ℕ) (ls ls' : List ℕ) → IsProp (News M ls ls')
+unfolding News
+News-prop M ls [] = Unit-prop
+News-prop M ls (l ∷ ls') = ×_prop (New-prop M ls l) (News-prop M (ls ++ l ∷ []) ls')
+
+InOrder-prop : (p : ℕ) (g : Gate) → IsProp (InOrder p g)
+InOrder-prop p g = Prim.hlevel props
+
+GateOk-prop : (M : ℕ) (ls : List ℕ) (p : ℕ) (g : Gate) → IsProp (GateOk M ls p g)
+GateOk-prop M ls p g = Prim.hlevel (props, New-prop, InOrder-prop)
+
+Chain-prop : (M : ℕ) (ls : List ℕ) (p : ℕ) (gs gs' : List Gate) → IsProp (Chain M ls p gs gs')
+unfolding Chain
+Chain-prop M ls p gs [] = Unit-prop
+Chain-prop M ls p gs (g ∷ gs') = ×_prop (GateOk-prop M (ls ++ lefts gs) p g) (Chain-prop M ls g.left (gs ++ g ∷ []) gs')
+
+Knowns-prop : (M : ℕ) (ls os : List ℕ) → IsProp (Knowns M ls os)
+unfolding Knowns
+Knowns-prop M ls [] = Unit-prop
+Knowns-prop M ls (o ∷ os) = ×_prop le_prop (×_prop (Prim.hlevel props) (Knowns-prop M ls os))
+
+pub Accepted-prop : (net : Net) → IsProp (Accepted net)
+Accepted-prop net = Prim.hlevel (props, News-prop, Chain-prop, Knowns-prop)
 
 -- the gates in variables: each above b and the one before it, up to M, and above its rights' variables
 unfoldable pub Ascending : ℕ → ℕ → List Gate → Type 0

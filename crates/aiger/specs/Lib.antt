@@ -3,4 +3,5 @@ pub mod Net
 pub mod Meaning
 pub mod Accepted
 pub mod Answers
+pub mod Circuit
 pub mod Marked

@@ -1,71 +1,53 @@
 -- What the functions that read the lines after the header ask and promise: marks say which variables the literals read so far define.
 -- Assumes nothing.
-use Rattle.std.specs.Prelude.{ℕ, ◌<◌, ◌≤◌, ◌/◌, ◌≡◌, Bool, true, false, List, [], ◌++◌, length, get_or, take, drop}
-use Rattle.aiger.specs.Form.{Gate, Header}
-use Rattle.aiger.specs.Net.{defined, fresh, input_lines, lefts, gate_lines, limits}
-use Rattle.aiger.specs.Answers.{lines_of, gates_of, Slices, Lent}
-use Rattle.aiger.specs.declared.net.Lines.{Lines}
-use Rattle.aiger.specs.declared.net.Lines.TheVariants.{Done}
-
-abbrev pub bit : Bool → ℕ
-bit true = 1
-bit false = 0
+use Rattle.std.specs.Prelude.{ℕ, ◌<◌, ◌≤◌, ◌/◌, ◌≡◌, Bool, true, false, List, [], ◌++◌, length, get_or, take, drop, Result, Ok, Err}
+use Rattle.aiger.specs.Form as form
+use Rattle.aiger.specs.Net.{Got, got, refused, defined, fresh, input_lines, lefts, gate_lines, Unknown, at, nowhere}
+use Rattle.aiger.specs.Answers.{lits_of, literals_in, gates_in}
+use Rattle.aiger.specs.declared.lines.Lit.{Lit}
+use Rattle.aiger.specs.declared.lines.Gate.{Gate}
+use Rattle.aiger.specs.declared.refusal.Refusal.{Refusal}
+use Rattle.aiger.specs.declared.refusal.Refusal.TheVariants.{Literal}
 
 -- one mark for each variable from 0 to 1,024: whether the literals ls define it
-pub record Marks (marks ls : List ℕ) : Type 0 where
+pub record Marks (marks : List Bool) (ls : List ℕ) : Type 0 where
   pub long : length marks ≡ 1025
-  pub says : (v : ℕ) → v < 1025 → get_or marks v 0 ≡ bit (defined ls v)
-
--- variables up to v have marks
-pub record Marking (marks : List ℕ) (v : ℕ) : Type 0 where
-  pub long : length marks ≡ 1025
-  pub low : v ≤ 1024
+  pub says : (v : ℕ) → v < 1025 → get_or marks v false ≡ defined ls v
 
 -- r says whether l may be defined next
-pub record Fresh (marks : List ℕ) (M l : ℕ) (r : Bool) : Type 0 where
+pub record Fresh (marks : List Bool) (M l : ℕ) (r : Bool) : Type 0 where
   pub is : (ls : List ℕ) → Marks marks ls → r ≡ fresh M ls l
   pub low : r ≡ true → l / 2 ≤ M
 
-pub record RightsAsked (marks : List ℕ) (g : Gate) : Type 0 where
-  pub long : length marks ≡ 1025
-  pub low0 : g.right0 / 2 ≤ 1024
-  pub low1 : g.right1 / 2 ≤ 1024
+-- a line that was read, with the next position
 
-pub record InputsAsked (M c : ℕ) (ins marks : List ℕ) : Type 0 where
-  pub vars : M ≤ 1024
-  pub few : c ≤ 1024
-  pub room : c ≤ length ins
-  pub none : Marks marks []
+abbrev pub number_read : List ℕ → Result (ℕ × ℕ) Refusal → Got ℕ
+number_read s (Ok r) = got r.0 (drop r.1 s)
+number_read s (Err w) = refused w
 
-pub record InputsRead (s : List ℕ) (at M c : ℕ) (ins marks : List ℕ) (r : Lines) : Type 0 where
-  pub answer : lines_of s (take c ins) r ≡ input_lines M c [] (drop at s)
-  pub marked : (p : ℕ) → r ≡ Done p → Marks marks (take c ins)
+abbrev pub gate_read : List ℕ → Result (Gate × ℕ) Refusal → Got form.Gate
+gate_read s (Ok r) = got (lits_of r.0) (drop r.1 s)
+gate_read s (Err w) = refused w
 
-pub record OutputsAsked (n c : ℕ) (outs : List ℕ) : Type 0 where
-  pub line : n ≤ 4096
-  pub few : c ≤ 1024
-  pub room : c ≤ length outs
+-- c lines that were read into the first c places of an array, with the next position
+abbrev pub literals_read : List ℕ → ℕ → Result (List Lit × ℕ) Refusal → Got (List ℕ)
+literals_read s c (Ok r) = got (literals_in (take c r.0)) (drop r.1 s)
+literals_read s c (Err w) = refused w
 
-pub record GatesAsked (M n c : ℕ) (xs ys zs marks : List ℕ) : Type 0 where
-  pub vars : M ≤ 1024
-  pub line : n ≤ 4096
-  pub few : c ≤ 1024
-  pub room : c ≤ length xs
-  pub room0 : c ≤ length ys
-  pub room1 : c ≤ length zs
-  pub long : length marks ≡ 1025
+abbrev pub gates_read : List ℕ → ℕ → Result (List Gate × ℕ) Refusal → Got (List form.Gate)
+gates_read s c (Ok r) = got (gates_in (take c r.0)) (drop r.1 s)
+gates_read s c (Err w) = refused w
+
+pub record InputsRead (s : List ℕ) (at M c : ℕ) (marks : List Bool) (r : Result (List Lit × ℕ) Refusal) : Type 0 where
+  pub answer : literals_read s c r ≡ input_lines M c [] (drop at s)
+  pub marked : (x : List Lit × ℕ) → r ≡ Ok x → Marks marks (literals_in (take c x.0))
 
 -- for the literals ls of the inputs
-pub record GatesRead (s : List ℕ) (at M n c : ℕ) (ls xs ys zs marks : List ℕ) (r : Lines) : Type 0 where
-  pub answer : lines_of s (gates_of c xs ys zs) r ≡ gate_lines M n ls 0 c [] (drop at s)
-  pub marked : (p : ℕ) → r ≡ Done p → Marks marks (ls ++ lefts (gates_of c xs ys zs))
+pub record GatesRead (s : List ℕ) (at M n c : ℕ) (ls : List ℕ) (marks : List Bool) (r : Result (List Gate × ℕ) Refusal) : Type 0 where
+  pub answer : gates_read s c r ≡ gate_lines M n ls 0 c [] (drop at s)
+  pub marked : (x : List Gate × ℕ) → r ≡ Ok x → Marks marks (ls ++ lefts (gates_in (take c x.0)))
 
-pub record KnownAsked (h : Header) (outs marks : List ℕ) : Type 0 where
-  pub vars : h.M ≤ 1024
-  pub few : h.I ≤ 1024
-  pub room : h.O ≤ length outs
-  pub long : length marks ≡ 1025
-
-pub record BodyAsked (h : Header) (x : Slices) : Type 0 where
-  pub small : limits h ≡ true
-  pub lent : Lent x
+-- what the check of the outputs comes to
+abbrev pub checked_of : Unknown → Result (Unit {0}) Refusal
+checked_of nowhere = Ok tt
+checked_of (at n) = Err (Literal n)

@@ -3,8 +3,8 @@
 -- Assumes nothing.
 use Rattle.std.specs.Prelude.{ℕ, zero, suc, ◌+◌, ◌*◌, ◌/◌, ◌%◌, Bool, ◌&&◌, ◌||◌, not, if◌then◌else◌, List, [], ◌∷◌, ◌++◌, map, eqb, leb, ltb, length}
 use Rattle.aiger.specs.Form.{Read, read, fault, Reader, number, line, Gate, gate, Header, header}
-use Rattle.aiger.specs.declared.net.Refusal.{Refusal}
-use Rattle.aiger.specs.declared.net.Refusal.TheVariants.{TooLong, Form, Limits, Literal, Order}
+use Rattle.aiger.specs.declared.refusal.Refusal.{Refusal}
+use Rattle.aiger.specs.declared.refusal.Refusal.TheVariants.{TooLong, Form, Limits, Literal, Order}
 
 -- what is made of a part of the text with what is left of the text, or the refusal
 pub data Got (A : Type 0) : Type 0 where

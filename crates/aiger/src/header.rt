@@ -2,13 +2,13 @@
 ghost use Rattle.std.specs.Prelude.{◌≡◌, drop};
 ghost use Rattle.aiger.specs.Form as form;
 ghost use Rattle.aiger.specs.Net as net;
-ghost use Rattle.aiger.specs.Answers.{step_of, sizes_of, header_of, malformed_of};
+ghost use Rattle.aiger.specs.Answers.{step_of, sizes_of, header_of};
 
 use crate::lines::{further, newline_left};
-use crate::numbers::{Fault, Read, Step, byte, read_fault, step_fault};
+use crate::numbers::{Fault, byte};
 
 // M, I, L, O and A.
-#[derive(Clone, Copy)]
+#[derive(Clone, Copy, Debug, PartialEq, Eq)]
 pub struct Sizes {
     pub vars: u16,
     pub inputs: u16,
@@ -17,60 +17,26 @@ pub struct Sizes {
     pub gates: u16,
 }
 
-// The header's numbers with the next position, or the line's fault.
-#[derive(Clone, Copy)]
-pub enum HeaderRead {
-    Found(Sizes, usize),
-    Malformed(Fault),
-}
-
-// The fault of a header that has one.
-pub fn header_fault(h: HeaderRead) -> Fault
-    ensures { result ≡ malformed_of h }
-{
-    match h {
-        HeaderRead::Malformed(f) => f,
-        HeaderRead::Found(_, _) => Fault::Other,
-    }
-}
-
 // The word `aag`.
-fn word(s: &[u8], at: usize) -> Step
+#[tactic(auto, unfolding(crate::specs::Form::word))]
+fn word(s: &[u8], at: usize) -> Result<usize, Fault>
     ensures { step_of s.now result ≡ form.word (drop at s.now) }
 {
-    let Step::Next(p) = byte(s, at, b'a') else {
-        return Step::Stop(Fault::Other);
-    };
-    let Step::Next(q) = byte(s, p, b'a') else {
-        return Step::Stop(Fault::Other);
-    };
+    let p = byte(s, at, b'a')?;
+    let q = byte(s, p, b'a')?;
     byte(s, q, b'g')
 }
 
 // The five numbers after the word.
-fn five(s: &[u8], at: usize) -> HeaderRead
+#[tactic(auto, unfolding(crate::specs::Form::five))]
+fn five(s: &[u8], at: usize) -> Result<(Sizes, usize), Fault>
     ensures { header_of s.now result ≡ form.five (drop at s.now) }
 {
-    let a = further(s, at);
-    let Read::Number(vars, p) = a else {
-        return HeaderRead::Malformed(read_fault(a));
-    };
-    let b = further(s, p);
-    let Read::Number(inputs, q) = b else {
-        return HeaderRead::Malformed(read_fault(b));
-    };
-    let c = further(s, q);
-    let Read::Number(latches, t) = c else {
-        return HeaderRead::Malformed(read_fault(c));
-    };
-    let d = further(s, t);
-    let Read::Number(outputs, u) = d else {
-        return HeaderRead::Malformed(read_fault(d));
-    };
-    let e = further(s, u);
-    let Read::Number(gates, v) = e else {
-        return HeaderRead::Malformed(read_fault(e));
-    };
+    let (vars, p) = further(s, at)?;
+    let (inputs, q) = further(s, p)?;
+    let (latches, t) = further(s, q)?;
+    let (outputs, u) = further(s, t)?;
+    let (gates, end) = further(s, u)?;
     let sizes = Sizes {
         vars,
         inputs,
@@ -78,44 +44,28 @@ fn five(s: &[u8], at: usize) -> HeaderRead
         outputs,
         gates,
     };
-    HeaderRead::Found(sizes, v)
+    Ok((sizes, end))
 }
 
-pub fn line_of_header(s: &[u8], at: usize) -> HeaderRead
+#[tactic(auto, unfolding(crate::specs::Form::line, crate::specs::Form::header))]
+pub fn line_of_header(s: &[u8], at: usize) -> Result<(Sizes, usize), Fault>
     ensures { header_of s.now result ≡ form.line form.header (drop at s.now) }
 {
     if !newline_left(s, at) {
-        return HeaderRead::Malformed(Fault::NoNewline);
+        return Err(Fault::NoNewline);
     }
-    let w = word(s, at);
-    let Step::Next(p) = w else {
-        return HeaderRead::Malformed(step_fault(w));
-    };
-    let h = five(s, p);
-    let HeaderRead::Found(sizes, q) = h else {
-        return h;
-    };
-    let Step::Next(t) = byte(s, q, b'\n') else {
-        return HeaderRead::Malformed(Fault::Other);
-    };
-    HeaderRead::Found(sizes, t)
+    let p = word(s, at)?;
+    let (sizes, q) = five(s, p)?;
+    let end = byte(s, q, b'\n')?;
+    Ok((sizes, end))
 }
 
 // I + A is compared with M in 32 bits, so that the sum cannot wrap.
 pub fn limits(h: Sizes) -> bool
     ensures { result ≡ net.limits (sizes_of h) }
 {
-    if 1024 < h.vars {
-        return false;
-    }
-    if 1024 < h.outputs {
-        return false;
-    }
-    if h.latches != 0 {
-        return false;
-    }
     let i = h.inputs as u32;
     let a = h.gates as u32;
     let m = h.vars as u32;
-    i + a <= m
+    h.vars <= 1024 && h.outputs <= 1024 && h.latches == 0 && i + a <= m
 }

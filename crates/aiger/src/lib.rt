@@ -7,10 +7,4 @@ pub mod lines;
 pub mod net;
 pub mod numbers;
 mod reader;
-
-// I and O, or the refusal's number.
-#[derive(Clone, Copy)]
-pub enum Answer {
-    Counted(u16, u16),
-    Refused(u16),
-}
+pub mod refusal;

@@ -1,27 +1,49 @@
-// What reading a net comes to. The reading itself stands in the crate nets.
+// A net, as it is read from an accepted text. The reading itself stands in the crate nets.
+ghost use Rattle.std.specs.Prelude.{◌≡◌, true};
+ghost use Rattle.aiger.specs.Net.{limits};
+ghost use Rattle.aiger.specs.Accepted.{Accepted, Accepted-prop};
+ghost use Rattle.aiger.specs.Answers.{sizes_of, net_in};
+
 use crate::header::Sizes;
-use crate::numbers::Fault;
+use crate::lines::{Gate, Lit};
 
-// Why a text is refused, and at which line.
-#[derive(Clone, Copy)]
-pub enum Refusal {
-    TooLong,
-    Form(Fault, usize),
-    Limits,
-    Literal(usize),
-    Order(usize),
+// The net of an accepted text: the first I inputs, O outputs and A gates of arrays that hold any net. The project uses no heap.
+#[derive(Drop)]
+pub struct Net {
+    pub sizes: Sizes,
+    pub input_places: [Lit; 1024],
+    pub output_places: [Lit; 1024],
+    pub gate_places: [Gate; 1024],
+    pub ghost small: { limits (sizes_of sizes) ≡ true },
+    pub ghost accepted: { Accepted (net_in sizes input_places output_places gate_places) } by { Accepted-prop (net_in sizes input_places output_places gate_places) },
 }
 
-// The position behind the lines, or the refusal.
-#[derive(Clone, Copy)]
-pub enum Lines {
-    Done(usize),
-    Stopped(Refusal),
-}
+impl Net {
+    ghost use Rattle.std.specs.Prelude.{length};
+    ghost use Rattle.aiger.specs.Answers.{literals_in, gates_in};
+    ghost use Rattle.aiger.specs.Circuit.{circuit_of};
 
-// The header's numbers with the position behind the last gate line, or the refusal.
-#[derive(Clone, Copy)]
-pub enum NetRead {
-    Whole(Sizes, usize),
-    Unread(Refusal),
+    // The inputs, in the order of their lines.
+    pub fn inputs(&self) -> &[Lit]
+        ensures are { literals_in result.now ≡ (circuit_of self.now).inputs }
+        ensures counted { length result.now ≡ self.now.sizes.inputs }
+    {
+        &self.input_places[..self.sizes.inputs as usize]
+    }
+
+    // The outputs, in the order of their lines.
+    pub fn outputs(&self) -> &[Lit]
+        ensures are { literals_in result.now ≡ (circuit_of self.now).outputs }
+        ensures counted { length result.now ≡ self.now.sizes.outputs }
+    {
+        &self.output_places[..self.sizes.outputs as usize]
+    }
+
+    // The gates, in the order of their lines.
+    pub fn gates(&self) -> &[Gate]
+        ensures are { gates_in result.now ≡ (circuit_of self.now).gates }
+        ensures counted { length result.now ≡ self.now.sizes.gates }
+    {
+        &self.gate_places[..self.sizes.gates as usize]
+    }
 }

@@ -1,48 +1,14 @@
 // Bytes and numbers. A position counts bytes from the text's start and stands for what is left of the text there.
 ghost use Rattle.std.specs.Prelude.{◌≡◌, drop};
 ghost use Rattle.aiger.specs.Form as form;
-ghost use Rattle.aiger.specs.Answers.{step_of, number_of, stop_of, fault_of};
+ghost use Rattle.aiger.specs.Answers.{step_of, number_of};
 
 // Which of the scope's (a), (b), (c) a line breaks.
-#[derive(Clone, Copy)]
+#[derive(Clone, Copy, Debug, PartialEq, Eq)]
 pub enum Fault {
     NoNewline,
     BadNumber,
     Other,
-}
-
-// The next position, or the line's fault.
-#[derive(Clone, Copy)]
-pub enum Step {
-    Next(usize),
-    Stop(Fault),
-}
-
-// A number with the next position, or the line's fault.
-#[derive(Clone, Copy)]
-pub enum Read {
-    Number(u16, usize),
-    Bad(Fault),
-}
-
-// The fault of a step that has one.
-pub fn step_fault(s: Step) -> Fault
-    ensures { result ≡ stop_of s }
-{
-    match s {
-        Step::Stop(f) => f,
-        Step::Next(_) => Fault::Other,
-    }
-}
-
-// The fault of a read that has one.
-pub fn read_fault(r: Read) -> Fault
-    ensures { result ≡ fault_of r }
-{
-    match r {
-        Read::Bad(f) => f,
-        Read::Number(_, _) => Fault::Other,
-    }
 }
 
 fn is_digit(x: u8) -> bool
@@ -51,84 +17,77 @@ fn is_digit(x: u8) -> bool
     b'0' <= x && x <= b'9'
 }
 
-// The digits that go on from the number `first`.
-#[tactic(auto, using(crate::proofs::AtPosition::digits_end, crate::proofs::AtPosition::digits_stop, crate::proofs::AtPosition::digits_within, crate::proofs::AtPosition::digits_over))]
-fn digits(s: &[u8], from: usize, first: u16) -> Read
+// The digits that go on from the number `first`, with the next position.
+#[tactic(auto, using(crate::proofs::AtPosition::digits_all, crate::proofs::AtPosition::digits_stop, crate::proofs::AtPosition::digits_within, crate::proofs::AtPosition::digits_over))]
+fn digits(s: &[u8], from: usize, first: u16) -> Result<(u16, usize), Fault>
     ensures { number_of s.now result ≡ form.digits first (drop from s.now) }
 {
-    let mut at = from;
     let mut n = first;
-    while at < s.len() {
+    for at in from..s.len() {
         let x = s[at];
         if !is_digit(x) {
-            return Read::Number(n, at);
+            return Ok((n, at));
         }
         let more = (n as u32) * 10 + ((x - b'0') as u32);
         if 65535 < more {
-            return Read::Bad(Fault::BadNumber);
+            return Err(Fault::BadNumber);
         }
         n = more as u16;
-        at += 1;
     }
-    Read::Number(n, at)
+    Ok((n, s.len()))
 }
 
 // What stands behind a 0 that begins a number.
-fn zero_alone(s: &[u8], at: usize) -> Read
+#[tactic(auto, using(crate::proofs::AtPosition::zero_end, crate::proofs::AtPosition::zero_more, crate::proofs::AtPosition::zero_stop))]
+fn zero_alone(s: &[u8], at: usize) -> Result<(u16, usize), Fault>
     ensures { number_of s.now result ≡ form.zero_alone (drop at s.now) }
 {
-    if at < s.len() {
-        if is_digit(s[at]) {
-            return Read::Bad(Fault::BadNumber);
-        }
-        return Read::Number(0, at);
+    if at < s.len() && is_digit(s[at]) {
+        return Err(Fault::BadNumber);
     }
-    Read::Number(0, at)
+    Ok((0, at))
 }
 
+// The number at the position, with the next position.
 #[tactic(auto, using(crate::proofs::AtPosition::number_end, crate::proofs::AtPosition::number_zero, crate::proofs::AtPosition::number_no, crate::proofs::AtPosition::number_on))]
-pub fn number(s: &[u8], at: usize) -> Read
+pub fn number(s: &[u8], at: usize) -> Result<(u16, usize), Fault>
     ensures { number_of s.now result ≡ form.number (drop at s.now) }
 {
     if s.len() <= at {
-        return Read::Bad(Fault::BadNumber);
+        return Err(Fault::BadNumber);
     }
     let x = s[at];
     if x == b'0' {
         return zero_alone(s, at + 1);
     }
     if !is_digit(x) {
-        return Read::Bad(Fault::BadNumber);
+        return Err(Fault::BadNumber);
     }
     digits(s, at + 1, (x - b'0') as u16)
 }
 
 // The space before a further number of the line.
-pub fn space(s: &[u8], at: usize) -> Step
+#[tactic(auto, using(crate::proofs::AtPosition::space_end, crate::proofs::AtPosition::space_is, crate::proofs::AtPosition::space_line, crate::proofs::AtPosition::space_other))]
+pub fn space(s: &[u8], at: usize) -> Result<usize, Fault>
     ensures { step_of s.now result ≡ form.space (drop at s.now) }
 {
     if s.len() <= at {
-        return Step::Stop(Fault::BadNumber);
+        return Err(Fault::BadNumber);
     }
-    let x = s[at];
-    if x == b' ' {
-        return Step::Next(at + 1);
+    match s[at] {
+        b' ' => Ok(at + 1),
+        b'\n' => Err(Fault::BadNumber),
+        _ => Err(Fault::Other),
     }
-    if x == b'\n' {
-        return Step::Stop(Fault::BadNumber);
-    }
-    Step::Stop(Fault::Other)
 }
 
 // The byte `b`, which is due at the position.
-pub fn byte(s: &[u8], at: usize, b: u8) -> Step
+#[tactic(auto, using(crate::proofs::AtPosition::byte_end, crate::proofs::AtPosition::byte_is, crate::proofs::AtPosition::byte_other))]
+pub fn byte(s: &[u8], at: usize, b: u8) -> Result<usize, Fault>
     ensures { step_of s.now result ≡ form.byte b (drop at s.now) }
 {
-    if s.len() <= at {
-        return Step::Stop(Fault::Other);
+    if at < s.len() && s[at] == b {
+        return Ok(at + 1);
     }
-    if s[at] == b {
-        return Step::Next(at + 1);
-    }
-    Step::Stop(Fault::Other)
+    Err(Fault::Other)
 }

@@ -6,7 +6,7 @@ use mathlib.Core.List.{List, [], ◌∷◌, ◌++◌}
 use native.Mathlib.Omega.{arith}
 use native.Mathlib.Decide.{ℕ_discrete, dec_lt}
 use lib.Dec.{eqb}
-use lib.ListN.{length, get_or, set, replicate, length-set, length-append, length-replicate, get_or-replicate, get_or-eq_default, get_or-append}
+use lib.ListN.{length, get_or, set, length-set, length-append, get_or-eq_default, get_or-append}
 use lib.Seq.{get_or-set_same, get_or-set_other, get_or_at, ext_get_or}
 use Rattle.steps.specs.Rows.{row_of, Rows, next, Assignment, value, row, bit}
 use Rattle.steps.specs.Sound.{Fits, Sound}
@@ -22,7 +22,6 @@ use Rattle.steps.proofs.Sound.{sound_below}
 use Rattle.steps.proofs.Table.{rows_of_next, rows_of_number, rows_of_part}
 use Rattle.assignments.specs.Bytes.{assigned, bytes_of}
 use Rattle.assignments.specs.Inner.{Lasting}
-use Rattle.table.specs.Lent.{Stands}
 
 pub bytes_length : (n : ℕ) (a : Assignment) → length (bytes_of n a) ≡ n
 unfolding bytes_of
@@ -44,13 +43,6 @@ pub record Following (c : ℕ) (s : Slices) (f k : ℕ) (bytes₀ bytes : List �
   pub same_length : length bytes ≡ length bytes₀
   pub each : (i : ℕ) → i < length bytes₀ → (get_or bytes i 0 < 2) × (one (rows_of s c) f i ≡ eqb (get_or bytes i 0) 1 || one (rows_of s c) k i)
 
-pub following_start : (c : ℕ) (s : Slices) (f : ℕ) (bytes : List ℕ) → f < c + 2 → bytes ≡ replicate (length bytes) 0 → Following c s f f bytes bytes
-following_start c s f bytes u z = record {
-  used = u;
-  same_length = refl;
-  each = λ i h. let q : get_or bytes i 0 ≡ 0 = ap (λ (l : List ℕ). get_or l i 0) z ∙ get_or-replicate (length bytes) i 0 0 h in (omega arith, rw q);
-}
-
 module _ (c : ℕ) (s : Slices) (f k : ℕ) (bytes₀ bytes : List ℕ) (l : Lasting c s bytes₀) (d : Following c s f k bytes₀ bytes) where
   abbrev N : ℕ
   N = length bytes₀
@@ -59,11 +51,6 @@ module _ (c : ℕ) (s : Slices) (f k : ℕ) (bytes₀ bytes : List ℕ) (l : Las
   R = rows_of s c
 
   module _ (g : 2 ≤ k) where
-    pub follow_stands : Stands (k - 2) s
-    follow_stands =
-        let p = l.lent in
-        record { in_vars = omega (arith, p.used, d.used); in_thens = omega (arith, p.used, d.used, p.thens); in_elses = omega (arith, p.used, d.used, p.elses) }
-
     module _ (v t e : ℕ) (x : row_at s (k - 2) ≡ row_of v t e) where
       is : row N R k ≡ row_of v t e
       is = rows_of_number N s c k g d.used ∙ x
@@ -150,16 +137,3 @@ module _ (N c : ℕ) (s : Slices) (f : ℕ) (w : Sound N (rows_of s c)) (u : f <
   one_means h =
       let used : f < next S = omega (arith, rows_of_next s c) in
       subst (λ (b : Assignment). (value b S f ≡ true) × ((a : Assignment) → value a S f ≡ true → NotGreater b a)) (sym bytes_mean) (one_is_one N S w f used h, one_is_least N S w f used)
-
--- zeroed bytes are as many as before
-lasting_length : (bytes : List ℕ) {bytes' : List ℕ} → bytes' ≡ replicate (length bytes) 0 → length bytes' ≡ length bytes
-lasting_length bytes z = ap length z ∙ length-replicate (length bytes) 0
-
-pub lasting_zeros : {c : ℕ} {s : Slices} {bytes bytes' : List ℕ} → Lasting c s bytes → bytes' ≡ replicate (length bytes) 0 → Lasting c s bytes'
-lasting_zeros {bytes = bytes} l z = record { lent = l.lent; sound = rw (lasting_length bytes z) l.sound }
-
-pub zeros_again : (bytes : List ℕ) {bytes' : List ℕ} → bytes' ≡ replicate (length bytes) 0 → bytes' ≡ replicate (length bytes') 0
-zeros_again bytes z = z ∙ ap (λ (n : ℕ). replicate n 0) (sym (lasting_length bytes z))
-
-pub found_in : (a : Assignment) (bytes bytes' : List ℕ) {bytes'' : List ℕ} → bytes' ≡ replicate (length bytes) 0 → bytes'' ≡ bytes_of (length bytes') a → bytes'' ≡ bytes_of (length bytes) a
-found_in a bytes bytes' z e = e ∙ ap (λ (n : ℕ). bytes_of n a) (lasting_length bytes z)

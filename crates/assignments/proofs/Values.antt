@@ -4,10 +4,8 @@ use mathlib.Core.Path.{◌≡◌, refl, sym, ap, ◌∙◌}
 use mathlib.Core.Bool.{Bool, true, false, ◌&&◌, xor}
 use mathlib.Core.List.{List}
 use native.Mathlib.Omega.{arith}
-use native.Mathlib.Decide.{ℕ_discrete}
 use lib.Dec.{eqb, ltb}
-use lib.ListN.{length, get_or, set, length-set}
-use lib.Seq.{get_or-set_same, get_or-set_other}
+use lib.ListN.{length, get_or}
 use borrow.Author.Tests.{lt-ltb, le-ltb, ltb-true, ltb-false, eq-eqb, ne_eqb}
 use Rattle.steps.specs.Rows.{row_of, Rows, Assignment, value, row, bit}
 use Rattle.steps.specs.Sound.{Fits, Sound}
@@ -17,8 +15,7 @@ use Rattle.steps.proofs.Sound.{sound_below}
 use Rattle.steps.proofs.Rows.{Node, node, value_0, value_1}
 use Rattle.steps.proofs.Table.{rows_of_next, rows_of_row, rows_of_part}
 use Rattle.assignments.specs.Bytes.{assigned}
-use Rattle.assignments.specs.Inner.{bit_of, Evaluated, Evaluable}
-use Rattle.table.specs.Lent.{Stands}
+use Rattle.assignments.specs.Inner.{bit_of, Evaluable}
 
 pub bit_const : (values : List ℕ) (k : ℕ) → k < 2 → bit_of values k ≡ k
 unfolding bit_of
@@ -38,10 +35,6 @@ bit_eqb : (k : ℕ) → k < 2 → bit (eqb k 1) ≡ k
 bit_eqb zero h = refl
 bit_eqb (suc zero) h = refl
 bit_eqb (suc (suc k)) h = absurd (omega arith)
-
-pub bit_tells : (b : Bool) (k : ℕ) → bit b ≡ k → b ≡ eqb k 1
-bit_tells true k e = rw (← e)
-bit_tells false k e = rw (← e)
 
 -- sums of bits
 bits_same : (x y : Bool) → bit x ≡ bit y → bit (xor x y) ≡ 0
@@ -70,9 +63,6 @@ module _ (c i : ℕ) (s : Slices) (bytes values : List ℕ) (d : Evaluable c i s
 
   here : Node N R (i + 2)
   here = node N R d.lasting.sound (i + 2) (omega (arith, rows_of_next s c, d.there)) (omega arith)
-
-  pub row_stands : Stands i s
-  row_stands = let l = d.lasting.lent in record { in_vars = omega (arith, l.used, d.there); in_thens = omega (arith, l.used, d.there, l.thens); in_elses = omega (arith, l.used, d.there, l.elses) }
 
   -- a number below row i's is a constant or the number of an evaluated row
   bit_below : (k : ℕ) → k < i + 2 → bit (value a R k) ≡ bit_of values k
@@ -123,21 +113,3 @@ module _ (c i : ℕ) (s : Slices) (bytes values : List ℕ) (d : Evaluable c i s
 
         pub with_apart : (g ≡ b → ⊥) → bit (value (assigned bytes) (rows_of s c) (i + 2)) ≡ 1
         with_apart q = ap bit both ∙ bits_apart (value a R t) (value a R e) (λ z. q (equal? z))
-
--- one row more
-pub evaluated_next : (c i : ℕ) (s : Slices) (bytes values : List ℕ) (b : ℕ) → i < 8192 → Evaluated c i s bytes values → bit (value (assigned bytes) (rows_of s c) (i + 2)) ≡ b
-    → Evaluated c (i + 1) s bytes (set values i b)
-evaluated_next c i s bytes values b h d e = record { long = length-set values i b ∙ d.long; each = λ k l. go k l (ℕ_discrete k i) }
-  where
-    go : (k : ℕ) → k < i + 1 → Dec (k ≡ i) → get_or (set values i b) k 0 ≡ bit (value (assigned bytes) (rows_of s c) (k + 2))
-    go k l (yes q) = rw q (get_or-set_same values i b 0 (omega (arith, d.long)) ∙ sym e)
-    go k l (no q) = get_or-set_other values i k b 0 q ∙ d.each k (omega arith)
-
-pub evaluated_upto : (c i n : ℕ) (s : Slices) (bytes values : List ℕ) → i ≤ n → n ≤ i → Evaluated c i s bytes values → Evaluated c n s bytes values
-evaluated_upto c i n s bytes values h g d = let q : i ≡ n = omega arith in rw q at d
-
--- the value of f, read off the list
-pub value_read : (c : ℕ) (s : Slices) (bytes values : List ℕ) (f i : ℕ) → 2 ≤ f → i ≡ f - 2 → Evaluated c (i + 1) s bytes values → value (assigned bytes) (rows_of s c) f ≡ eqb (get_or values i 0) 1
-value_read c s bytes values f i h q d =
-    let z : i + 2 ≡ f = omega arith in
-    ap (value (assigned bytes) (rows_of s c)) (sym z) ∙ bit_tells (value (assigned bytes) (rows_of s c) (i + 2)) (get_or values i 0) (sym (d.each i (omega arith)))

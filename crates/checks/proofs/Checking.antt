@@ -1,44 +1,27 @@
 -- The soundness check, row by row.
 use Prim.Native.Nat.{ℕ, suc, ◌+◌, ◌/◌, ◌<◌, ◌≤◌}
-use mathlib.Core.Path.{◌≡◌, refl, sym, ap, subst, ◌∙◌}
-use mathlib.Core.Bool.{Bool, true, false, ◌&&◌}
-use mathlib.Core.List.{List, ◌++◌}
+use mathlib.Core.Path.{◌≡◌, refl, sym, ap, ◌∙◌}
+use mathlib.Core.Bool.{Bool, true, false}
+use mathlib.Core.List.{List}
 use native.Mathlib.Omega.{arith}
 use native.Mathlib.Numerals.{add-one}
-use lib.ListN.{length, get_or, drop, replicate, length-append, length-replicate, length-drop, get_or-replicate, get_or-append}
-use Rattle.steps.specs.Rows.{Row, row_of, Rows, count, row, find}
+use lib.ListN.{length}
+use Rattle.steps.specs.Rows.{Row, count}
 use Rattle.steps.specs.Sound.{sound, fits}
 use Rattle.steps.specs.Table.{Slices, row_at, rows_of}
-use lib.Dec.{eqb, leb, ltb}
-use borrow.Author.Tests.{eqb-true, leb-true, eq-eqb, ne_eqb, lt-ltb, le-ltb}
-use Rattle.steps.proofs.Bools.{both_true, and_false}
-use Rattle.table.specs.declared.Row.{Row as Number}
-use Rattle.table.specs.declared.index.Found.{Found}
-use Rattle.table.specs.declared.index.Found.TheVariants.{At}
-use Rattle.table.specs.Inner.{number_of, Some, Finds}
+use lib.Dec.{eqb, leb}
+use borrow.Author.Tests.{leb-true}
+use Rattle.steps.proofs.Bools.{both_true}
 use Rattle.steps.proofs.Sound.{fits_true, sound_true, sound_part}
-use Rattle.steps.proofs.Table.{rows_of_count, rows_of_next, rows_of_part}
-use Rattle.table.specs.Lent.{room, Lent, Stands}
+use Rattle.steps.proofs.Table.{rows_of_count, rows_of_part}
+use Rattle.table.specs.Lent.{room, Lent}
 use Rattle.table.specs.Index.{index_words, Followed, Apart, Indexed, enter, Linkable, Front}
 use Rattle.table.specs.Memory.{reach}
 use Rattle.table.specs.Calls.{in_range}
-use Rattle.checks.specs.declared.check.Table.TheVariants.{Fine, Unsound}
-use Rattle.checks.specs.Checks.{parts_fit, RowNext, Zeroed, Prepared, SoundChecked, Checked}
+use Rattle.checks.specs.Checks.{Prepared, SoundChecked}
 use Rattle.table.proofs.Buckets.{newest_none}
 use Rattle.table.proofs.Links.{linkable, enter_front, enter_chains, front_refl, front_trans, behind_word}
-use Rattle.table.proofs.Words.{reach_fits, reach_after, words_none}
-
--- the words that are used were zeroed
-module _ (R : ℕ) (work work' : List ℕ) (n : ℕ) (q : reach R (length work) ≡ n) (e : work' ≡ replicate n 0 ++ drop n work) where
-  pub zeroed_length : length work' ≡ length work
-  zeroed_length = ap length e ∙ length-append (replicate n 0) (drop n work) ∙ omega (arith, length-replicate {A = ℕ} n 0, length-drop n work, reach_fits R (length work))
-
-  pub zeroed : Zeroed R work'
-  zeroed = record {
-    zeros = λ i h.
-        let l : i < n = omega (arith, rw zeroed_length at h) in
-        ap (λ (x : List ℕ). get_or x i 0) e ∙ get_or-append (replicate n 0) (drop n work) 0 i (omega (arith, length-replicate {A = ℕ} n 0)) ∙ get_or-replicate n i 0 0 l;
-  }
+use Rattle.table.proofs.Words.{reach_after, words_none}
 
 -- the first i rows are sound and indexed
 pub record Checking (N c i : ℕ) (s : Slices) (work₀ work : List ℕ) : Type 0 where
@@ -79,12 +62,6 @@ module _ (N c : ℕ) (s : Slices) (work₀ : List ℕ) (p : Prepared c s work₀
         }
 
     module _ (h : i < c) where
-      pub checking_next : RowNext i s work
-      checking_next = record { indexed = k.indexed; there = omega (arith, p.lent.used) }
-
-      pub checking_stands : Stands i s
-      checking_stands = record { in_vars = omega (arith, p.lent.used); in_thens = omega (arith, p.lent.used, p.lent.thens); in_elses = omega (arith, p.lent.used, p.lent.elses) }
-
       -- the index has as many words as at first
       module _ (H : ℕ) (z : index_words (room s) (length work₀) ≡ H) where
         pub checking_words : index_words (room s) (length work) ≡ H
@@ -130,47 +107,6 @@ module _ (N c : ℕ) (s : Slices) (work₀ : List ℕ) (p : Prepared c s work₀
         pub checking_again : (H : ℕ) → index_words (room s) (length work₀) ≡ H → (work' : List ℕ) → fits N (rows_of s i) x ≡ true → enter H i x work ≡ work' → Checking N c (i + 1) s work₀ work'
         checking_again H z work' f q = one_more work' (ap (fits N (rows_of s i)) e ∙ f) (rw (checking_words H z, e) q)
 
--- the ways out of the test of a row
-module _ (N : ℕ) (R : Rows) (x : Row) where
-  pub fits_not : parts_fit N R x ≡ false → fits N R x ≡ false
-  unfolding fits
-  fits_not q = ap (λ (b : Bool). b && eqb (find R x) 0) q
-
-  pub fits_twice : (f : Found) → Finds f R x → {k : Number} → f ≡ At k → fits N R x ≡ false
-  unfolding fits
-  fits_twice f d {k} q =
-      let n : find R x ≡ k.0 = d.is ∙ ap number_of q in
-      let p : 0 < k.0 = subst Some q d.some in
-      ap (λ (b : Bool). parts_fit N R x && b) (ne_eqb (find R x) 0 (λ z. omega arith)) ∙ and_false (parts_fit N R x)
-
-  pub fits_all : parts_fit N R x ≡ true → find R x ≡ 0 → fits N R x ≡ true
-  unfolding fits
-  fits_all q z = ap (λ (b : Bool). b && eqb (find R x) 0) q ∙ eq-eqb (find R x) 0 z
-
--- and of its parts
-module _ (N : ℕ) (s : Slices) (i v t e : ℕ) where
-  pub var_out : N ≤ v → parts_fit N (rows_of s i) (row_of v t e) ≡ false
-  var_out h = rw (le-ltb v N h)
-
-  module _ (v_in : v < N) where
-    pub then_out : i + 2 ≤ t → parts_fit N (rows_of s i) (row_of v t e) ≡ false
-    then_out h = rw (lt-ltb v N v_in, rows_of_next s i, le-ltb t (i + 2) h)
-
-    module _ (t_in : t < i + 2) where
-      pub else_out : i + 2 ≤ e → parts_fit N (rows_of s i) (row_of v t e) ≡ false
-      else_out h = rw (lt-ltb v N v_in, rows_of_next s i, lt-ltb t (i + 2) t_in, le-ltb e (i + 2) h)
-
-      module _ (e_in : e < i + 2) where
-        pub then_zero : t ≡ 0 → parts_fit N (rows_of s i) (row_of v t e) ≡ false
-        then_zero h = rw (lt-ltb v N v_in, rows_of_next s i, lt-ltb t (i + 2) t_in, lt-ltb e (i + 2) e_in, eq-eqb t 0 h)
-
-        module _ (t_some : t ≡ 0 → ⊥) (rt : ℕ) (et : (row N (rows_of s i) t).var ≡ rt) where
-          pub then_before : rt ≤ v → parts_fit N (rows_of s i) (row_of v t e) ≡ false
-          then_before h = rw (lt-ltb v N v_in, rows_of_next s i, lt-ltb t (i + 2) t_in, lt-ltb e (i + 2) e_in, ne_eqb t 0 t_some, et, le-ltb v rt h)
-
-          pub else_tested : v < rt → (re : ℕ) → (row N (rows_of s i) e).var ≡ re → parts_fit N (rows_of s i) (row_of v t e) ≡ ltb v re
-          else_tested h re ee = rw (lt-ltb v N v_in, rows_of_next s i, lt-ltb t (i + 2) t_in, lt-ltb e (i + 2) e_in, ne_eqb t 0 t_some, et, lt-ltb v rt h, ee)
-
 -- what is in range
 module _ (N c : ℕ) (s : Slices) (e : in_range N c s ≡ true) where
   ranges : (leb N 1024 ≡ true) × (leb (room s) 8192 ≡ true) × (eqb (length s.thens) (room s) ≡ true) × (eqb (length s.elses) (room s) ≡ true) × (leb c (room s) ≡ true)
@@ -184,18 +120,3 @@ module _ (N c : ℕ) (s : Slices) (e : in_range N c s ≡ true) where
 
   pub in_range_vars : N ≤ 1024
   in_range_vars = leb-true N 1024 ranges.0
-
-  pub in_range_lent : Lent c s
-  in_range_lent = record {
-    used = leb-true c (room s) ranges.4;
-    small = leb-true (room s) 8192 ranges.1;
-    thens = eqb-true (length s.thens) (room s) ranges.2;
-    elses = eqb-true (length s.elses) (room s) ranges.3;
-  }
-
-  module _ (work : List ℕ) (b : Bool) (k : SoundChecked b N c s work) where
-    pub checked_fine : b ≡ true → Checked Fine N c s work
-    checked_fine q = record { finding = (e, k.is ∙ q); live = k.live q }
-
-    pub checked_unsound : b ≡ false → Checked Unsound N c s work
-    checked_unsound q = record { finding = (e, k.is ∙ q); live = tt }

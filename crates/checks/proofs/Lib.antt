@@ -1,4 +1,4 @@
-pub mod Freed
 pub mod Checking
-pub mod Endings
+pub mod Findings
 pub mod CallEnds
+pub mod Steps

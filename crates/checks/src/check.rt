@@ -1,125 +1,105 @@
 // For the crates above: the checks that every call on a table makes first.
-ghost use Rattle.std.specs.Prelude.{◌≡◌, ◌<◌, length};
-ghost use Rattle.steps.specs.Rows.{row_of};
+ghost use Rattle.std.specs.Prelude.{◌≡◌, length, IfOk, IfSome};
 ghost use Rattle.steps.specs.Sound.{fits};
-ghost use Rattle.steps.specs.Table.{slices, rows_of};
-ghost use Rattle.table.specs.Lent.{Lent};
-ghost use Rattle.table.specs.Index.{Belongs};
+ghost use Rattle.steps.specs.Table.{rows_of};
+ghost use Rattle.table.specs.Index.{Indexed, Belongs};
 ghost use Rattle.table.specs.Calls.{in_range};
-ghost use Rattle.checks.specs.Checks.{parts_fit, RowNext, Prepared, SoundChecked, Checked};
+ghost use Rattle.table.specs.Views.{triple, slices_seen, viewed, shown, slices_of};
+ghost use Rattle.checks.specs.Checks.{parts_fit, is_some, RowsOf, Prepared, SoundChecked, Checked, OnlyWork};
 
-use table::index::{Found, bucket, enter, find, index_words};
+use table::index::{Bucket, enter, find, index_words};
 use table::memory::words_used;
-use table::rows::{Node, node_at, row_of};
-use zeros::zero_words;
+use table::rows::{Node, Rows, View};
+use table::{Refusal, Table};
 
-// What the checks find.
-#[derive(Clone, Copy)]
-pub enum Table {
-    Fine,
-    OutOfRange,
-    Unsound,
+// The rows, if N, the lengths and the count are in range.
+#[tactic(auto, unfolding(table::specs::Calls::in_range))]
+fn in_range<'a>(n: usize, view: &View<'a>) -> Option<Rows<'a>>
+    ensures is { in_range n view.now.count (slices_seen view.now) ≡ is_some result }
+    ensures rows { IfSome result (RowsOf view.now) }
+{
+    let rows = view.vs.len();
+    if n <= 1024
+        && rows <= 8192
+        && view.ts.len() == rows
+        && view.es.len() == rows
+        && view.count <= rows
+    {
+        Some(Rows {
+            vs: view.vs,
+            ts: view.ts,
+            es: view.es,
+            count: view.count,
+        })
+    } else {
+        None
+    }
 }
 
-fn in_range(n: usize, vs: &[u16], ts: &[u16], es: &[u16], count: usize) -> bool
-    ensures { in_range n count (slices vs.now ts.now es.now) ≡ result }
+// Whether the row x behind these has its variable in range and parts among them with roots behind its own.
+#[tactic(auto, using(steps::proofs::Table::rows_of_next))]
+fn parts_fit(rows: &Rows<'_>, n: u16, x: Node) -> bool
+    ensures { parts_fit n (shown rows.now) (triple x) ≡ result }
 {
-    if 1024 < n {
-        return false;
-    }
-    if 8192 < vs.len() {
-        return false;
-    }
-    if ts.len() != vs.len() {
-        return false;
-    }
-    if es.len() != vs.len() {
-        return false;
-    }
-    count <= vs.len()
+    let next = rows.count + 2;
+    x.v.0 < n
+        && (x.t.0 as usize) < next
+        && (x.e.0 as usize) < next
+        && x.t.0 != 0
+        && x.v.0 < rows.row(n, x.t).v.0
+        && x.v.0 < rows.row(n, x.e).v.0
 }
 
-// Whether row i, which is x, has its variable in range and parts before it with roots behind its own.
-fn parts_fit(vs: &[u16], ts: &[u16], es: &[u16], n: u16, i: usize, x: Node) -> bool
-    requires { Lent i (slices vs.now ts.now es.now) }
-    ensures { parts_fit n (rows_of (slices vs.now ts.now es.now) i) (row_of x.v.0 x.t.0 x.e.0) ≡ result }
+// Whether the row x, which belongs in the bucket b of the rows' index, may stand behind these.
+#[tactic(auto, unfolding(steps::specs::Sound::fits))]
+fn row_fits(rows: &Rows<'_>, work: &[u64], n: u16, b: Bucket, x: Node) -> bool
+    requires indexed { Indexed rows.now.count (viewed rows.now) work.now }
+    requires belongs { Belongs (length rows.now.vs.now) (length work.now) (triple x) b.words b.number }
+    ensures { fits n (shown rows.now) (triple x) ≡ result }
 {
-    if n <= x.v.0 {
-        return false;
-    }
-    if i + 2 <= x.t.0 as usize {
-        return false;
-    }
-    if i + 2 <= x.e.0 as usize {
-        return false;
-    }
-    if x.t.0 == 0 {
-        return false;
-    }
-    let t = row_of(vs, ts, es, i, n, x.t);
-    if t.v.0 <= x.v.0 {
-        return false;
-    }
-    let e = row_of(vs, ts, es, i, n, x.e);
-    x.v.0 < e.v.0
+    parts_fit(rows, n, x) && find(rows, work, b, x).is_none()
 }
 
-// Whether row i, which is x and belongs in the bucket b of an index of h words, may stand after the i rows before it.
-fn row_fits(
-    vs: &[u16],
-    ts: &[u16],
-    es: &[u16],
-    work: &[u64],
-    n: u16,
-    i: usize,
-    h: usize,
-    b: usize,
-    x: Node,
-) -> bool
-    requires row_next { RowNext i (slices vs.now ts.now es.now) work.now }
-    requires belongs { Belongs (length vs.now) (length work.now) (row_of x.v.0 x.t.0 x.e.0) h b }
-    ensures { fits n (rows_of (slices vs.now ts.now es.now) i) (row_of x.v.0 x.t.0 x.e.0) ≡ result }
+// Whether the rows are sound. Where they are, the working slice then begins with their index.
+fn rows_sound(rows: &Rows<'_>, n: u16, work: &mut [u64]) -> bool
+    requires { Prepared rows.now.count (viewed rows.now) work.old }
+    ensures { SoundChecked result n rows.now.count (viewed rows.now) work.new }
 {
-    if !parts_fit(vs, ts, es, n, i, x) {
-        return false;
-    }
-    if let Found::At(_) = find(vs, ts, es, work, i, h, b, x) {
-        return false;
-    }
-    true
-}
-
-// Whether the rows in use are sound. Where they are, the working slice then begins with their index.
-fn rows_sound(vs: &[u16], ts: &[u16], es: &[u16], work: &mut [u64], n: u16, count: usize) -> bool
-    requires { Prepared count (slices vs.now ts.now es.now) work.old }
-    ensures { SoundChecked result n count (slices vs.now ts.now es.now) work.new }
-{
-    let h = index_words(vs.len(), work.len());
-    let mut i = 0;
-    while i < count {
-        let x = node_at(vs, ts, es, i);
-        let b = bucket(h, x);
-        if !row_fits(vs, ts, es, work, n, i, h, b, x) {
+    let words = index_words(rows.vs.len(), work.len());
+    for i in 0..rows.count {
+        let x = rows.node(i);
+        let b = Bucket::of(words, x);
+        if !row_fits(&rows.before(i), work, n, b, x) {
             return false;
         }
-        enter(work, h, b, i);
-        i += 1;
+        enter(work, b, i);
     }
     true
 }
 
 // The checks of every call on a table. Where they find nothing, the working slice is ready for the inner functions.
-pub fn check(n: usize, vs: &[u16], ts: &[u16], es: &[u16], count: usize, work: &mut [u64]) -> Table
-    ensures { Checked result n count (slices vs.now ts.now es.now) work.new }
+#[tactic(auto, using(table::proofs::Words::reach_fits, crate::proofs::Checking::in_range_vars))]
+pub fn check<'a>(n: usize, view: &View<'a>, work: &mut [u64]) -> Result<Rows<'a>, Refusal>
+    ensures checked { Checked result n view.now.count (slices_seen view.now) work.new }
+    ensures rows { IfOk result (RowsOf view.now) }
 {
-    if !in_range(n, vs, ts, es, count) {
-        return Table::OutOfRange;
-    }
-    let used = words_used(vs.len(), work.len());
-    zero_words(work, used);
-    if rows_sound(vs, ts, es, work, n as u16, count) {
-        Table::Fine
+    let rows = in_range(n, view).ok_or(Refusal::OutOfRange)?;
+    let used = words_used(rows.vs.len(), work.len());
+    work[..used].fill(0);
+    if rows_sound(&rows, n as u16, work) {
+        Ok(rows)
     } else {
-        Table::Unsound
+        Err(Refusal::Unsound)
     }
+}
+
+// The same of a table that may be written.
+pub fn check_table(n: usize, t: &mut Table<'_>) -> Result<(), Refusal>
+    ensures checked { Checked result n t.old.count (slices_of t.old) t.new.work.now }
+    ensures only_work { OnlyWork t.old t.new }
+{
+    let work = std::mem::take(&mut t.work);
+    let checked = check(n, &t.view(), work).map(|_| ());
+    t.work = work;
+    checked
 }

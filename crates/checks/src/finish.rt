@@ -1,33 +1,21 @@
-// For the crates above: how a call that may append ends.
+// For the crates above: what a call that may append does where room has run out.
 ghost use Rattle.std.specs.Prelude.{◌≡◌};
-ghost use Rattle.steps.specs.Table.{slices};
+ghost use Rattle.table.specs.Calls.{cleared};
 ghost use Rattle.table.specs.Lent.{Lent};
-ghost use Rattle.table.specs.Calls.{cleared, left, finished};
+ghost use Rattle.table.specs.Views.{slices_of};
+ghost use Rattle.checks.specs.Checks.{OnlyRows};
 
-use table::Answer;
-use table::make::Made;
-use zeros::zero_numbers;
+use table::Table;
 
 // Zeros all free rows.
-pub fn free_rows(vs: &mut [u16], ts: &mut [u16], es: &mut [u16], count: usize)
-    requires { Lent count (slices vs.old ts.old es.old) }
-    ensures { slices vs.new ts.new es.new ≡ cleared count
-        (slices vs.old ts.old es.old) }
+pub fn free_rows(t: &mut Table<'_>)
+    requires { Lent t.old.count (slices_of t.old) }
+    ensures rows { slices_of t.new ≡ cleared t.old.count (slices_of t.old) }
+    ensures count { t.new.count ≡ t.old.count }
+    ensures only_rows { OnlyRows t.old t.new }
 {
-    zero_numbers(&mut vs[count..]);
-    zero_numbers(&mut ts[count..]);
-    zero_numbers(&mut es[count..]);
-}
-
-// What was made is the answer; where room has run out, the free rows are zeroed.
-pub fn finish(vs: &mut [u16], ts: &mut [u16], es: &mut [u16], count: usize, made: Made) -> Answer
-    requires { Lent count (slices vs.old ts.old es.old) }
-    ensures { finished made count (slices vs.old ts.old es.old) ≡ left result
-        (slices vs.new ts.new es.new) }
-{
-    let Made::At(k, n) = made else {
-        free_rows(vs, ts, es, count);
-        return Answer::Refused(7);
-    };
-    Answer::Made(k, n)
+    let count = t.count;
+    t.vs[count..].fill(0);
+    t.ts[count..].fill(0);
+    t.es[count..].fill(0);
 }

@@ -1,24 +1,26 @@
--- What the inner functions of the circuit call ask and promise.
+-- What the functions of the circuit call ask, and the count that it leaves.
 -- Assumes nothing: these are definitions.
-use Rattle.std.specs.Prelude.{ℕ, ◌/◌, ◌<◌, ◌≤◌, ◌≡◌, List}
+use Rattle.std.specs.Prelude.{ℕ, ◌/◌, ◌≤◌, ◌≡◌, List, Result, Ok, Err}
 use Rattle.steps.specs.Table.{Slices}
-use Rattle.table.specs.Memory.{Live}
-use Rattle.aiger.specs.Answers.{Slices as NetSlices}
-use Rattle.aiger.specs.declared.header.Sizes.{Sizes}
-use Rattle.gates.specs.Inner.{BuildAsked, NetAsked}
+use Rattle.table.specs.declared.Table.{Table}
+use Rattle.table.specs.Views.{slices_of}
+use Rattle.aiger.specs.Form.{Gate}
+use Rattle.gates.specs.Inner.{BuildAsked}
+use Rattle.verdicts.specs.Calls.{rows_made}
+use Rattle.endings.specs.declared.Verdict.{Verdict}
+use Rattle.endings.specs.declared.Refusal.{Refusal}
+use Rattle.endings.specs.Answers.{judged, answer_of_judged}
 
--- an empty table, the gates of an accepted net in three slices, and a literal of one of its variables
-pub record OutputAsked (M : ℕ) (s : Slices) (work xs ys zs : List ℕ) (gates l : ℕ) : Type 0 where
-  pub build : BuildAsked M s work xs ys zs gates
+-- an empty table, the gates of an accepted net, and a literal of one of its variables
+pub record OutputAsked (M c : ℕ) (s : Slices) (work : List ℕ) (gates : List Gate) (l : ℕ) : Type 0 where
+  pub build : BuildAsked M c s work gates
   pub low : l / 2 ≤ M
 
--- an accepted net, and one of its outputs, with a pattern of I bytes
-pub record JudgeAsked (s : Slices) (h : Sizes) (x : NetSlices) (o I : ℕ) : Type 0 where
-  pub read : NetAsked s h x
-  pub there : o < h.outputs
-  pub long : I ≡ h.inputs
+-- the same of a table
+abbrev pub OutputIn : ℕ → Table → List Gate → ℕ → Type 0
+OutputIn M t = OutputAsked M t.count (slices_of t) t.work.now
 
--- and the working slice is ready
-pub record ReadyAsked (s : Slices) (work : List ℕ) (h : Sizes) (x : NetSlices) (o I : ℕ) : Type 0 where
-  pub judge : JudgeAsked s h x o I
-  pub live : Live h.vars 0 s work
+-- the count of rows in use after the call: those made, or where it is refused those before
+abbrev pub Counted : Result Verdict Refusal → ℕ → ℕ → Type 0
+Counted (Ok v) c c' = rows_made (answer_of_judged (judged v)) ≡ c'
+Counted (Err why) c c' = c' ≡ c

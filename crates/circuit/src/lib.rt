@@ -3,190 +3,82 @@
 
 mod output;
 
-ghost use Rattle.std.specs.Prelude.{◌≡◌, length, replicate};
-ghost use Rattle.steps.specs.Table.{slices};
-ghost use Rattle.aiger.specs.Answers as net;
-ghost use Rattle.verdicts.specs.Calls.{lengths_fine, end_with, judge, circuit_call};
-ghost use Rattle.verdicts.specs.Verdicts.{verdict_of};
-ghost use Rattle.endings.specs.Answers.{Answered};
-ghost use Rattle.gates.specs.Inner.{NetAsked};
-ghost use Rattle.circuit.specs.Inner.{ReadyAsked, JudgeAsked};
+ghost use Rattle.std.specs.Prelude.{◌≡◌, true, length, replicate};
+ghost use Rattle.table.specs.Views.{slices_of, SameLoans};
+ghost use Rattle.aiger.specs.Circuit.{circuit_of};
+ghost use Rattle.verdicts.specs.Calls.{lengths_fine, judge, circuit_call};
+ghost use Rattle.endings.specs.Answers.{Answered, judged_of};
+ghost use Rattle.circuit.specs.Inner.{Counted};
 
 use crate::output::output;
-use aiger::header::Sizes;
-use aiger::lines::Lit;
-use aiger::net::NetRead;
-use checks::check::{Table, check};
-use endings::{Judged, ended};
-use nets::for_circuit::{number_of, read_net};
-use table::make::Made;
-use zeros::zero_work;
+use aiger::net::Net;
+use checks::check::check_table;
+use endings::{Refusal, Verdict, ended};
+use nets::read_net;
+use table::Table;
 
-fn lengths_fine(vs: &[u16], ts: &[u16], es: &[u16]) -> bool
-    ensures { lengths_fine (slices vs.now ts.now es.now) ≡ result }
+// Whether the three slices have one length, and are not too long.
+#[tactic(auto, unfolding(verdicts::specs::Calls::lengths_fine))]
+fn lengths_fine(t: &Table<'_>) -> bool
+    ensures { lengths_fine (slices_of t.now) ≡ result }
 {
-    if 8192 < vs.len() {
-        return false;
-    }
-    if ts.len() != vs.len() {
-        return false;
-    }
-    es.len() == vs.len()
+    let rows = t.vs.len();
+    rows <= 8192 && t.ts.len() == rows && t.es.len() == rows
 }
 
-fn verdict_ready(
-    h: Sizes,
-    ins: &[u16],
-    outs: &[u16],
-    lefts: &[u16],
-    rights0: &[u16],
-    rights1: &[u16],
-    vs: &mut [u16],
-    ts: &mut [u16],
-    es: &mut [u16],
-    work: &mut [u64],
-    o: usize,
-    pattern: &mut [u8],
-) -> Judged
-    requires { ReadyAsked (slices vs.old ts.old es.old) work.old h (net.slices ins.now outs.now lefts.now rights0.now rights1.now) o
-        (length pattern.old) }
-    ensures { Answered (end_with (verdict_of
-        (net.net_in h (net.slices ins.now outs.now lefts.now rights0.now rights1.now))
-        (length vs.old) o) (slices vs.old ts.old es.old) pattern.old) result
-        (slices vs.new ts.new es.new) pattern.new }
+// The verdict for output o of a net, from an empty table: any empty table is sound, and the check readies the working slice.
+fn judge(net: &Net, t: &mut Table<'_>, o: usize, pattern: &mut [u8]) -> Result<Verdict, Refusal>
+    requires { lengths_fine (slices_of t.old) ≡ true }
+    ensures answered { Answered (judge (circuit_of net.now) (slices_of t.old) o pattern.old) (judged_of result) (slices_of t.new) pattern.new }
+    ensures count { Counted result t.old.count t.new.count }
+    ensures same { SameLoans t.old t.new }
+    ensures same_length { length t.new.work.now ≡ length t.old.work.now }
 {
-    let n = h.vars;
-    let l = Lit(outs[o]);
-    let made = output(
-        vs,
-        ts,
-        es,
-        work,
-        n,
-        lefts,
-        rights0,
-        rights1,
-        h.gates as usize,
-        l,
-    );
-    ended(vs, ts, es, n, made, ins, pattern)
+    let l = *net.outputs().get(o).ok_or(Refusal::NoOutput)?;
+    let inputs = net.inputs();
+    if pattern.len() != inputs.len() {
+        return Err(Refusal::PatternLength);
+    }
+    let n = net.sizes.vars;
+    t.count = 0;
+    check_table(n as usize, t)?;
+    let made = output(t, n, net.gates(), l);
+    Ok(ended(t, n, made, inputs, pattern))
 }
 
-// The verdict for output o of an accepted net, in the lent table: any empty table is sound, and the check readies the working slice.
-fn verdict(
-    h: Sizes,
-    ins: &[u16],
-    outs: &[u16],
-    lefts: &[u16],
-    rights0: &[u16],
-    rights1: &[u16],
-    vs: &mut [u16],
-    ts: &mut [u16],
-    es: &mut [u16],
-    work: &mut [u64],
-    o: usize,
-    pattern: &mut [u8],
-) -> Judged
-    requires { JudgeAsked (slices vs.old ts.old es.old) h (net.slices ins.now outs.now lefts.now rights0.now rights1.now) o
-        (length pattern.old) }
-    ensures { Answered (end_with (verdict_of
-        (net.net_in h (net.slices ins.now outs.now lefts.now rights0.now rights1.now))
-        (length vs.old) o) (slices vs.old ts.old es.old) pattern.old) result
-        (slices vs.new ts.new es.new) pattern.new }
-{
-    let table = check(h.vars as usize, vs, ts, es, 0, work);
-    match table {
-        Table::OutOfRange => Judged::Refused(1),
-        Table::Unsound => Judged::Refused(2),
-        Table::Fine => verdict_ready(
-            h, ins, outs, lefts, rights0, rights1, vs, ts, es, work, o, pattern,
-        ),
-    }
-}
-
-// 14 and 15, then the verdict.
-fn asked(
-    h: Sizes,
-    ins: &[u16],
-    outs: &[u16],
-    lefts: &[u16],
-    rights0: &[u16],
-    rights1: &[u16],
-    vs: &mut [u16],
-    ts: &mut [u16],
-    es: &mut [u16],
-    work: &mut [u64],
-    o: usize,
-    pattern: &mut [u8],
-) -> Judged
-    requires { NetAsked (slices vs.old ts.old es.old) h (net.slices ins.now outs.now lefts.now rights0.now rights1.now) }
-    ensures { Answered (judge
-        (net.net_in h (net.slices ins.now outs.now lefts.now rights0.now rights1.now))
-        (slices vs.old ts.old es.old) o pattern.old) result
-        (slices vs.new ts.new es.new) pattern.new }
-{
-    if h.outputs as usize <= o {
-        return Judged::Refused(14);
-    }
-    if pattern.len() != h.inputs as usize {
-        return Judged::Refused(15);
-    }
-    verdict(
-        h, ins, outs, lefts, rights0, rights1, vs, ts, es, work, o, pattern,
-    )
-}
-
-fn circuit_read(
+// The text is read only for a table of fine lengths.
+#[tactic(auto, unfolding(verdicts::specs::Calls::circuit_call))]
+fn judge_text(
     text: &[u8],
-    vs: &mut [u16],
-    ts: &mut [u16],
-    es: &mut [u16],
-    work: &mut [u64],
+    t: &mut Table<'_>,
     o: usize,
     pattern: &mut [u8],
-) -> Judged
-    ensures { Answered (circuit_call text.now (slices vs.old ts.old es.old) o pattern.old) result
-        (slices vs.new ts.new es.new) pattern.new }
+) -> Result<Verdict, Refusal>
+    ensures answered { Answered (circuit_call text.now (slices_of t.old) o pattern.old) (judged_of result) (slices_of t.new) pattern.new }
+    ensures count { Counted result t.old.count t.new.count }
+    ensures same { SameLoans t.old t.new }
+    ensures same_length { length t.new.work.now ≡ length t.old.work.now }
 {
-    if !lengths_fine(vs, ts, es) {
-        return Judged::Refused(1);
+    if !lengths_fine(t) {
+        return Err(Refusal::Table(table::Refusal::OutOfRange));
     }
-    let mut ins = [0u16; 1024];
-    let mut outs = [0u16; 1024];
-    let mut lefts = [0u16; 1024];
-    let mut rights0 = [0u16; 1024];
-    let mut rights1 = [0u16; 1024];
-    let r = read_net(
-        text,
-        &mut ins,
-        &mut outs,
-        &mut lefts,
-        &mut rights0,
-        &mut rights1,
-    );
-    match r {
-        NetRead::Whole(h, _) => asked(
-            h, &ins, &outs, &lefts, &rights0, &rights1, vs, ts, es, work, o, pattern,
-        ),
-        NetRead::Unread(why) => Judged::Refused(number_of(why)),
-    }
+    let (net, _) = read_net(text)?;
+    judge(&net, t, o, pattern)
 }
 
-// The circuit call.
+// The circuit call. The count of the table's rows is not read, since the call starts from an empty table.
 pub fn circuit(
     text: &[u8],
-    vs: &mut [u16],
-    ts: &mut [u16],
-    es: &mut [u16],
-    work: &mut [u64],
+    t: &mut Table<'_>,
     o: usize,
     pattern: &mut [u8],
-) -> Judged
-    ensures answered { Answered (circuit_call text.now (slices vs.old ts.old es.old) o pattern.old) result
-        (slices vs.new ts.new es.new) pattern.new }
-    ensures work_after { work.new ≡ replicate (length work.old) 0 }
+) -> Result<Verdict, Refusal>
+    ensures answered { Answered (circuit_call text.now (slices_of t.old) o pattern.old) (judged_of result) (slices_of t.new) pattern.new }
+    ensures count { Counted result t.old.count t.new.count }
+    ensures same { SameLoans t.old t.new }
+    ensures work_after { t.new.work.now ≡ replicate (length t.old.work.now) 0 }
 {
-    let r = circuit_read(text, vs, ts, es, work, o, pattern);
-    zero_work(work);
-    r
+    let verdict = judge_text(text, t, o, pattern);
+    t.work.fill(0);
+    verdict
 }

@@ -1,38 +1,20 @@
 // An output's normal form by the system of all gates, from an empty table.
-ghost use Rattle.steps.specs.Table.{slices};
-ghost use Rattle.reduction.specs.Inner.{Took};
-ghost use Rattle.aiger.specs.Answers.{gates_of};
+ghost use Rattle.aiger.specs.Answers.{gates_in};
+ghost use Rattle.reduction.specs.Inner.{TookIn};
 ghost use Rattle.verdicts.specs.Systems.{output_steps};
-ghost use Rattle.circuit.specs.Inner.{OutputAsked};
+ghost use Rattle.circuit.specs.Inner.{OutputIn};
 
-use aiger::lines::Lit;
+use aiger::lines::{Gate, Lit};
 use gates::system::{build, literal};
 use reduction::reduce;
-use table::make::Made;
+use table::{NoRoom, Row, Table};
 
 // The system, the output's literal, and its normal form.
-pub fn output(
-    vs: &mut [u16],
-    ts: &mut [u16],
-    es: &mut [u16],
-    work: &mut [u64],
-    n: u16,
-    lefts: &[u16],
-    rights0: &[u16],
-    rights1: &[u16],
-    gates: usize,
-    l: Lit,
-) -> Made
-    requires { OutputAsked n (slices vs.old ts.old es.old) work.old lefts.now rights0.now rights1.now gates l.0 }
-    ensures { Took n (output_steps n (gates_of gates lefts.now rights0.now rights1.now) l.0) result 0
-        (slices vs.old ts.old es.old) (slices vs.new ts.new es.new)
-        work.old work.new }
+pub fn output(t: &mut Table<'_>, n: u16, gates: &[Gate], l: Lit) -> Result<Row, NoRoom>
+    requires { OutputIn n t.old (gates_in gates.now) l.0 }
+    ensures { TookIn n (output_steps n (gates_in gates.now) l.0) result t.old t.new }
 {
-    let Made::At(system, c1) = build(vs, ts, es, work, n, lefts, rights0, rights1, gates) else {
-        return Made::Full;
-    };
-    let Made::At(p, c2) = literal(vs, ts, es, work, n, c1, l) else {
-        return Made::Full;
-    };
-    reduce(vs, ts, es, work, n, c2, p, system)
+    let system = build(t, n, gates)?;
+    let p = literal(t, n, l)?;
+    reduce(t, n, p, system)
 }

@@ -5,6 +5,9 @@ use mathlib.Core.Bool.{Bool, true, false}
 use mathlib.Core.List.{List, [], ◌∷◌, map, map-map}
 use native.Mathlib.Omega.{arith}
 use lib.Dec.{eqb}
+use Rattle.std.proofs.Math.ListN.{get_or-map}
+use Rattle.aiger.specs.declared.lines.Lit.{Lit}
+use Rattle.aiger.specs.Answers.{literals_in}
 use lib.ListN.{length, get_or, set, take, length-set, length-map}
 use lib.Seq.{get_or-set_same, get_or-set_other, get_or-take, length-take-le, ext_get_or}
 use borrow.Author.Tests.{eqb-true, eqb-false}
@@ -52,6 +55,10 @@ get_d_mapped : (f : ℕ → ℕ) (ls : List ℕ) (j : ℕ) → j < length ls →
 get_d_mapped f [] j h = absurd (omega arith)
 get_d_mapped f (l ∷ ls) zero h = refl
 get_d_mapped f (l ∷ ls) (suc j) h = get_d_mapped f ls j (omega arith)
+
+-- a literal among the numbers of all
+pub literal_at : (ls : List Lit) (i : ℕ) → get_or (literals_in ls) i 0 ≡ (get_or ls i (record { 0 = 0 })).0
+literal_at ls i = get_or-map (λ (l : Lit). l.0) ls i (record { 0 = 0 })
 
 -- the first i bytes of the pattern are written, from the bytes of the ring variables
 pub record Written (M : ℕ) (ins p₀ p ones : List ℕ) (i : ℕ) : Type 0 where

@@ -5,8 +5,8 @@ use Rattle.steps.specs.One.{one}
 use Rattle.steps.specs.Rows.{Assignment}
 use Rattle.steps.specs.Sound.{Sound}
 use Rattle.steps.specs.Table.{Slices, rows_of}
-use Rattle.table.specs.declared.make.Made.{Made}
-use Rattle.table.specs.declared.make.Made.TheVariants.{At, Full}
+use Rattle.table.specs.Made.{Made}
+use Rattle.table.specs.Made.{At, Full}
 use Rattle.table.specs.Calls.{cleared}
 use Rattle.table.specs.Lent.{Lent}
 use Rattle.verdicts.specs.Calls.{verdict_0, verdict_1, verdict_2, Left, left}

@@ -12,8 +12,8 @@ use Rattle.steps.proofs.Rows.{◌≼◌, row_keeps}
 use Rattle.steps.proofs.Table.{rows_of_next}
 use Rattle.steps.proofs.Theorems.{Right, right, make_right, product_right}
 use Rattle.table.specs.declared.Row.{Row}
-use Rattle.table.specs.declared.make.Made.{Made}
-use Rattle.table.specs.declared.make.Made.TheVariants.{At, Full}
+use Rattle.table.specs.Made.{Made}
+use Rattle.table.specs.Made.{At, Full}
 use Rattle.table.specs.Index.{Indexed}
 use Rattle.table.specs.Inner.{Entered, Kept}
 use Rattle.table.specs.Memory.{Live}

@@ -1,9 +1,12 @@
 -- The system of all gates, one gate after the other.
 use Prim.Native.Nat.{ℕ, suc, ◌+◌, ◌-◌, ◌/◌, ◌<◌, ◌≤◌}
-use mathlib.Core.Path.{◌≡◌, refl, sym, ap, subst, ◌∙◌}
+use mathlib.Core.Path.{◌≡◌, refl, sym, ap, ◌∙◌}
 use mathlib.Core.List.{List, [], ◌∷◌}
 use native.Mathlib.Omega.{arith}
-use lib.ListN.{drop, drop_of_length-le}
+use native.Mathlib.Numerals.{add-one}
+use Rattle.std.proofs.Math.ListN.{get_or-map}
+use Rattle.std.proofs.Math.Seq.{drop-cons}
+use lib.ListN.{length, get_or, drop, drop_of_length-le, length-map}
 use Rattle.steps.specs.Rows.{Rows, root}
 use Rattle.steps.specs.Steps.{Answer, answer, ◌>>=◌}
 use Rattle.steps.specs.Table.{Slices, rows_of}
@@ -12,19 +15,22 @@ use Rattle.steps.proofs.Rows.{row_const}
 use Rattle.steps.proofs.Solve.{solve}
 use Rattle.steps.proofs.Table.{rows_of_next}
 use Rattle.table.specs.declared.Row.{Row}
-use Rattle.table.specs.declared.make.Made.{Made}
-use Rattle.table.specs.declared.make.Made.TheVariants.{At, Full}
+use Rattle.table.specs.Made.{Made, At, Full}
 use Rattle.table.specs.Inner.{Kept}
 use Rattle.table.specs.Memory.{Live}
 use Rattle.table.proofs.Takes.{taken_rows}
 use Rattle.sums.proofs.Keeping.{kept_by, kept_nothing, kept_full, kept_then}
-use Rattle.aiger.specs.Answers.{gates_of}
+use Rattle.aiger.specs.Answers.{gates_in, lits_of}
+use Rattle.aiger.specs.declared.lines.Gate.{Gate as CodeGate}
 use Rattle.aiger.specs.Form.{Gate}
 use Rattle.aiger.specs.Accepted.{Ascending}
-use Rattle.aiger.proofs.InSlices.{gate_at, gates_from, length_gates}
 use Rattle.verdicts.specs.Systems.{gate_steps, build}
 use Rattle.verdicts.proofs.Building.{Next, gate_leaves, keeps_build}
 use Rattle.gates.specs.Inner.{GateAsked, BuildAsked}
+
+-- the gates from place i on begin with the one there
+next_gate : (gates : List CodeGate) (i : ℕ) (d : CodeGate) → i < length gates → drop i (gates_in gates) ≡ lits_of (get_or gates i d) ∷ drop (i + 1) (gates_in gates)
+next_gate gates i d h = rw (add-one, ← get_or-map lits_of gates i d) (drop-cons (gates_in gates) i (lits_of d) (rw length-map h))
 
 build_none : (N F : ℕ) (R : Rows) → build N [] F R ≡ answer F R
 unfolding build
@@ -89,56 +95,38 @@ module _ (N : ℕ) (s₀ : Slices) (work₀ : List ℕ) (all : List Gate) where
           goes_on = λ r s' work' d. x.goes_on r s' work' (kept_by (build_first N g gs F (rows_of s c)) (kept_then (build N gs) (keeps_build N gs) k d));
         }
 
--- over the slices of a net
+-- over the gates of a net, the first i of which are added
 
-module _ (N : ℕ) (s₀ : Slices) (work₀ : List ℕ) (xs ys zs : List ℕ) (gates : ℕ) where
-  abbrev all : List Gate
-  all = gates_of gates xs ys zs
+module _ (N : ℕ) (s₀ : Slices) (work₀ : List ℕ) (gates : List CodeGate) where
+  abbrev pub Behind : ℕ → ℕ → ℕ → Slices → List ℕ → Type 0
+  Behind i = Left N s₀ work₀ (gates_in gates) (drop i (gates_in gates))
 
-  -- the last `rest` gates are left
-  pub record LeftOf (rest F c : ℕ) (s : Slices) (work : List ℕ) : Type 0 where
-    pub few : rest ≤ gates
-    pub left : Left N s₀ work₀ (gates_of gates xs ys zs) (drop (gates - rest) (gates_of gates xs ys zs)) F c s work
-
-  pub build_starts : BuildAsked N s₀ work₀ xs ys zs gates → LeftOf gates 1 0 s₀ work₀
+  pub build_starts : {c : ℕ} → BuildAsked N c s₀ work₀ (gates_in gates) → Behind 0 1 0 s₀ work₀
   build_starts a = record {
-    few = omega arith;
-    left = rw (nothing_passed) (record {
-      live = a.live;
-      not_0 = λ q. omega arith;
-      used = omega arith;
-      last = 0;
-      above = rw (root, row_const N (rows_of s₀ 0) 1 (omega arith)) (omega arith);
-      order = a.order;
-      goes_on = λ r s' work' d. d;
-    });
+    live = rw a.none at a.live;
+    not_0 = λ q. omega arith;
+    used = omega arith;
+    last = 0;
+    above = rw (root, row_const N (rows_of s₀ 0) 1 (omega arith)) (omega arith);
+    order = a.order;
+    goes_on = λ r s' work' d. d;
   }
-    where
-      nothing_passed : gates - gates ≡ 0
-      nothing_passed = omega arith
 
-  module _ (rest F c : ℕ) (s : Slices) (work : List ℕ) (x : LeftOf rest F c s work) (h : 0 < rest) where
-    abbrev k : ℕ
-    k = gates - rest
+  module _ (i F c : ℕ) (s : Slices) (work : List ℕ) (x : Behind i F c s work) (h : i < length gates) (d : CodeGate) where
+    abbrev g : CodeGate
+    g = get_or gates i d
 
-    opened : Left N s₀ work₀ all (gate_at k xs ys zs ∷ drop (k + 1) all) F c s work
-    opened = rw (gates_from xs ys zs gates k (omega (arith, x.few))) at x.left
+    opened : Left N s₀ work₀ (gates_in gates) (lits_of g ∷ drop (i + 1) (gates_in gates)) F c s work
+    opened = rw (next_gate gates i d h) at x
 
-    pub gate_asks : GateAsked N c s work (gate_at (gates - rest) xs ys zs) F
-    gate_asks = left_asks N s₀ work₀ all F c s work (gate_at k xs ys zs) (drop (k + 1) all) opened
+    pub gate_asks : GateAsked N c s work (lits_of (get_or gates i d)) F
+    gate_asks = left_asks N s₀ work₀ (gates_in gates) F c s work (lits_of g) (drop (i + 1) (gates_in gates)) opened
 
-    pub gate_full : {s₁ : Slices} {work₁ : List ℕ} → Kept N (gate_steps N (gate_at (gates - rest) xs ys zs) F) Full c s s₁ work work₁ → Kept N (build N (gates_of gates xs ys zs) 1) Full 0 s₀ s₁ work₀ work₁
-    gate_full {s₁} {work₁} d = left_full N s₀ work₀ all F c s work (gate_at k xs ys zs) (drop (k + 1) all) opened s₁ work₁ d
+    pub gate_full : {s₁ : Slices} {work₁ : List ℕ} → Kept N (gate_steps N (lits_of (get_or gates i d)) F) Full c s s₁ work work₁ → Kept N (build N (gates_in gates) 1) Full 0 s₀ s₁ work₀ work₁
+    gate_full {s₁} {work₁} d = left_full N s₀ work₀ (gates_in gates) F c s work (lits_of g) (drop (i + 1) (gates_in gates)) opened s₁ work₁ d
 
-    pub gate_next : {G : Row} {n : ℕ} {s₁ : Slices} {work₁ : List ℕ} → Kept N (gate_steps N (gate_at (gates - rest) xs ys zs) F) (At G n) c s s₁ work work₁ → LeftOf (rest - 1) G.0 n s₁ work₁
-    gate_next {G} {n} {s₁} {work₁} d = record {
-      few = omega (arith, x.few);
-      left = subst (λ (j : ℕ). Left N s₀ work₀ all (drop j all) G.0 n s₁ work₁) one_passed (left_next N s₀ work₀ all F c s work (gate_at k xs ys zs) (drop (k + 1) all) opened G n s₁ work₁ d);
-    }
-      where
-        one_passed : gates - rest + 1 ≡ gates - (rest - 1)
-        one_passed = omega (arith, x.few)
+    pub gate_next : {G : Row} {n : ℕ} {s₁ : Slices} {work₁ : List ℕ} → Kept N (gate_steps N (lits_of (get_or gates i d)) F) (At G n) c s s₁ work work₁ → Behind (i + 1) G.0 n s₁ work₁
+    gate_next {G} {n} {s₁} {work₁} d = left_next N s₀ work₀ (gates_in gates) F c s work (lits_of g) (drop (i + 1) (gates_in gates)) opened G n s₁ work₁ d
 
-  pub build_ends : {rest : ℕ} {F : Row} {c : ℕ} {s : Slices} {work : List ℕ} → LeftOf rest F.0 c s work → rest ≤ 0 → Kept N (build N (gates_of gates xs ys zs) 1) (At F c) 0 s₀ s work₀ work
-  build_ends {rest} {F} {c} {s} {work} x h =
-      left_end N s₀ work₀ all F c s work (rw (drop_of_length-le all {i = gates - rest} (omega (arith, length_gates gates xs ys zs))) at x.left)
+  pub build_ends : {i : ℕ} {F : Row} {c : ℕ} {s : Slices} {work : List ℕ} → Behind i F.0 c s work → length gates ≤ i → Kept N (build N (gates_in gates) 1) (At F c) 0 s₀ s work₀ work
+  build_ends {i} {F} {c} {s} {work} x h = left_end N s₀ work₀ (gates_in gates) F c s work (rw (drop_of_length-le (gates_in gates) {i = i} (omega (arith, length-map gates lits_of))) at x)

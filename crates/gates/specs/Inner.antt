@@ -1,25 +1,20 @@
 -- What the functions of literals and gates ask.
 -- Assumes nothing: these are definitions.
-use Rattle.std.specs.Prelude.{ℕ, ◌+◌, ◌/◌, ◌<◌, ◌≤◌, ◌≡◌, true, List, length}
+use Rattle.std.specs.Prelude.{ℕ, ◌+◌, ◌/◌, ◌<◌, ◌≤◌, ◌≡◌, List}
 use Rattle.steps.specs.Rows.{root}
 use Rattle.steps.specs.Steps.{Steps, ◌>>=◌, product}
 use Rattle.steps.specs.System.{equation}
 use Rattle.steps.specs.Table.{Slices, rows_of}
-use Rattle.table.specs.Lent.{Lent}
+use Rattle.table.specs.declared.Table.{Table}
 use Rattle.table.specs.Memory.{Live}
-use Rattle.aiger.specs.Answers.{Slices as NetSlices, Lent as NetLent, gates_of, sizes_of, net_in}
+use Rattle.table.specs.Views.{slices_of}
 use Rattle.aiger.specs.Form.{Gate}
-use Rattle.aiger.specs.Net.{limits}
-use Rattle.aiger.specs.declared.header.Sizes.{Sizes}
-use Rattle.aiger.specs.Accepted.{Accepted, Ascending}
+use Rattle.aiger.specs.Accepted.{Ascending}
 use Rattle.verdicts.specs.Systems.{ring}
 
 -- "their product, then the equation is added", of the gate of left l, where F is the system before
 abbrev pub joined_steps : ℕ → ℕ → ℕ → ℕ → ℕ → Steps
 joined_steps N l F f h = product N f h >>= equation (ring N (l / 2)) F
-
-abbrev pub gate_from : ℕ → ℕ → ℕ → Gate
-gate_from l r0 r1 = record { left = l; right0 = r0; right1 = r1 }
 
 -- a literal of a ring variable or a constant
 pub record LiteralAsked (N c : ℕ) (s : Slices) (work : List ℕ) (l : ℕ) : Type 0 where
@@ -51,17 +46,21 @@ pub record GateAsked (N c : ℕ) (s : Slices) (work : List ℕ) (g : Gate) (F : 
   pub not_0 : F ≡ 0 → ⊥
   pub system : Behind N c s g.left F
 
--- an empty table, and the gates of an accepted net in three slices
-pub record BuildAsked (N : ℕ) (s : Slices) (work xs ys zs : List ℕ) (gates : ℕ) : Type 0 where
-  pub live : Live N 0 s work
-  pub room : gates ≤ length xs
-  pub room0 : gates ≤ length ys
-  pub room1 : gates ≤ length zs
-  pub order : Ascending N 0 (gates_of gates xs ys zs)
+-- the same of a table
+abbrev pub LiteralIn : ℕ → Table → ℕ → Type 0
+LiteralIn N t = LiteralAsked N t.count (slices_of t) t.work.now
 
--- a lent table, and an accepted net in slices
-pub record NetAsked (s : Slices) (h : Sizes) (x : NetSlices) : Type 0 where
-  pub lent : Lent 0 s
-  pub slices : NetLent x
-  pub small : limits (sizes_of h) ≡ true
-  pub net : Accepted (net_in h x)
+abbrev pub JoinedIn : ℕ → Table → ℕ → ℕ → ℕ → ℕ → Type 0
+JoinedIn N t = JoinedAsked N t.count (slices_of t) t.work.now
+
+abbrev pub GateIn : ℕ → Table → Gate → ℕ → Type 0
+GateIn N t = GateAsked N t.count (slices_of t) t.work.now
+
+-- an empty table, and the gates of an accepted net
+pub record BuildAsked (N c : ℕ) (s : Slices) (work : List ℕ) (gates : List Gate) : Type 0 where
+  pub none : c ≡ 0
+  pub live : Live N c s work
+  pub order : Ascending N 0 gates
+
+abbrev pub BuildIn : ℕ → Table → List Gate → Type 0
+BuildIn N t = BuildAsked N t.count (slices_of t) t.work.now

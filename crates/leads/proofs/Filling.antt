@@ -16,7 +16,7 @@ use Rattle.table.specs.Memory.{reach, Live}
 use Rattle.table.proofs.Buckets.{index_room}
 use Rattle.table.proofs.Links.{chains_same}
 use Rattle.table.proofs.Words.{reach_after, reach_fits}
-use Rattle.leads.specs.Inner.{Skips, stays, Past, no_lead, at_lead, System, Filled}
+use Rattle.leads.specs.Inner.{Skips, stays, Past, no_lead, at_lead, System}
 use Rattle.leads.proofs.Skipping.{Left, skips_left, skips_same, skips_lead}
 
 -- room for the table behind the remembered results, as the code tests it
@@ -27,9 +27,6 @@ module _ (R L from : ℕ) (z : reach R L ≡ from) where
   module _ (N : ℕ) where
     pub table_fits : N ≤ L - from → from + N ≤ L
     table_fits h = omega (arith, from_fits)
-
-    pub no_table : L - from < N → L < reach R L + N
-    no_table h = omega (arith, from_fits)
 
 -- words behind the memory may be written
 module _ (N c : ℕ) (s : Slices) (work : List ℕ) (d : Live N c s work) where
@@ -64,21 +61,10 @@ module _ (N c : ℕ) (s : Slices) (work₀ : List ℕ) (f : ℕ) (d : Live N c s
   used : f < next R
   used = omega (arith, rows_of_next s c, y.used)
 
-  -- no room for a table
-  pub fill_none : length work₀ < reach (room s) (length work₀) + N → Filled N c s work₀ work₀ f
-  fill_none h = record { live = d; table = record { each = λ l. absurd (omega arith) }; same_length = refl }
-
   pub fill_starts : Filling N c s work₀ work₀ f f 0
   fill_starts = record { live = d; same_length = refl; upto = omega arith; left = stays f (omega arith); each = λ u l. absurd (omega arith) }
 
   module _ (work : List ℕ) (g v : ℕ) (i : Filling N c s work₀ work f g v) where
-    pub fill_ends : N ≤ v → Filled N c s work₀ work f
-    fill_ends h = record {
-      live = i.live;
-      table = record { each = rw i.same_length (λ l u b b'. i.each u (omega arith)) };
-      same_length = i.same_length;
-    }
-
     rest : Left N R d.sound v i.upto f g
     rest = skips_left N R d.sound v i.upto f g used y.not_0 i.left
 
@@ -107,8 +93,5 @@ module _ (N c : ℕ) (s : Slices) (work₀ : List ℕ) (f : ℕ) (d : Live N c s
           at u l (no e) = rw (get_or-set_other work (reach (room s) (length work₀) + v) (reach (room s) (length work₀) + u) g 0 (λ z. omega arith)) (i.each u (omega arith))
 
     module _ (from : ℕ) (z : reach (room s) (length work₀) ≡ from) (room_is : from + N ≤ length work₀) (h : v < N) where
-      pub fill_there : from + v < length work
-      fill_there = omega (arith, i.same_length)
-
       pub fill_goes_on : (g' : ℕ) → Past N (rows_of s c) v g g' → Filling N c s work₀ (set work (from + v) g) f g' (v + 1)
       fill_goes_on g' p = subst (λ (x : ℕ). Filling N c s work₀ (set work (x + v) g) f g' (v + 1)) z (fill_next (omega arith) h g' p)

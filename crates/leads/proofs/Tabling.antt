@@ -9,10 +9,10 @@ use Rattle.steps.specs.Table.{Slices, rows_of}
 use Rattle.steps.proofs.Roots.{node_below}
 use Rattle.steps.proofs.Rows.{◌≼◌, row_keeps}
 use Rattle.steps.proofs.Table.{rows_of_next}
-use Rattle.table.specs.Lent.{room, Numbered}
+use Rattle.table.specs.Lent.{room}
 use Rattle.table.specs.Memory.{reach, Live, Behind}
 use Rattle.table.proofs.Links.{behind_word}
-use Rattle.leads.specs.Inner.{Skips, stays, Walking, Reducing}
+use Rattle.leads.specs.Inner.{Skips, stays, Reducing}
 use Rattle.leads.proofs.Skipping.{skips_left, skips_keeps, skips_inside, skips_through}
 
 -- the table as it is read, and kept
@@ -23,18 +23,12 @@ module _ (N c : ℕ) (s : Slices) (work : List ℕ) (f : ℕ) (d : Reducing N c 
   used : f < next R
   used = omega (arith, rows_of_next s c, d.system.used)
 
-  pub lead_asks : Numbered c s f
-  lead_asks = record { lent = d.live.indexed.lent; used = d.system.used }
-
-  pub lead_walks : (v : ℕ) → v < N → Walking N c s f v
-  lead_walks v h = record { lent = d.live.indexed.lent; sound = d.live.sound; system = d.system; var_below = h }
-
   module _ (v : ℕ) (h : v < N) where
     pub lead_stays : (u t e : ℕ) → row N (rows_of s c) f ≡ row_of u t e → v ≤ u → Skips N (rows_of s c) v f f
     lead_stays u t e q l = stays f (rw (root, q) l)
 
     module _ (u t e : ℕ) (q : row N (rows_of s c) f ≡ row_of u t e) (l : u < v) (from : ℕ) (z : reach (room s) (length work) ≡ from) (b : from + N ≤ length work) where
-      pub lead_read : Skips N (rows_of s c) v f (get_or work (from + v) 0)
+      lead_read : Skips N (rows_of s c) v f (get_or work (from + v) 0)
       lead_read = rw z at (d.table.each (omega arith) v (rw (root, q) l) h)
 
       pub lead_small : get_or work (from + v) 0 < 65536

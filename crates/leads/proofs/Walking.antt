@@ -24,9 +24,6 @@ module _ (N c : ℕ) (s : Slices) (f v : ℕ) (d : Walking N c s f v) where
   used : (k : ℕ) → k < c + 2 → k < next R
   used k h = omega (arith, rows_of_next s c)
 
-  pub walk_asks : Numbered c s f
-  walk_asks = record { lent = d.lent; used = d.system.used }
-
   pub walk_starts : (u t e : ℕ) → row N (rows_of s c) f ≡ row_of u t e → Walked N (rows_of s c) v f f u t e
   walk_starts u t e q = record { used = used f d.system.used; not_0 = d.system.not_0; is = q; leads_on = λ G h. h }
 

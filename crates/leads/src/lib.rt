@@ -3,79 +3,70 @@
 #![tactic(auto)]
 
 ghost use Rattle.std.specs.Prelude.{◌<◌};
-ghost use Rattle.steps.specs.Table.{slices, rows_of};
+ghost use Rattle.steps.specs.Table.{rows_of};
 ghost use Rattle.table.specs.Lent.{Numbered};
-ghost use Rattle.table.specs.Memory.{Live};
-ghost use Rattle.leads.specs.Inner.{Skips, Past, System, Walking, Reducing, Filled};
+ghost use Rattle.table.specs.Tables.{LiveIn};
+ghost use Rattle.table.specs.Views.{viewed, shown, slices_of};
+ghost use Rattle.leads.specs.Inner.{Skips, Past, System, Walking, ReducingIn, FilledIn};
 
 use table::memory::words_used;
-use table::rows::row_of;
-use table::{Row, Var};
+use table::rows::Rows;
+use table::{Row, Table, Var};
 
 // What is left of the system f, lead by lead.
-fn walk(vs: &[u16], ts: &[u16], es: &[u16], n: u16, count: usize, f: Row, v: Var) -> Row
-    requires { Walking n count (slices vs.now ts.now es.now) f.0 v.0 }
-    ensures { Skips n (rows_of (slices vs.now ts.now es.now) count) v.0 f.0 result.0 }
+fn walk(rows: &Rows<'_>, n: u16, f: Row, v: Var) -> Row
+    requires { Walking n rows.now.count (viewed rows.now) f.0 v.0 }
+    ensures { Skips n (shown rows.now) v.0 f.0 result.0 }
 {
     let mut g = f;
-    let mut a = row_of(vs, ts, es, count, n, g);
-    while a.v.0 < v.0 {
+    let mut a = rows.row(n, g);
+    // a walk along then-parts: no index is counted
+    while a.v < v {
         g = a.t;
-        a = row_of(vs, ts, es, count, n, g);
+        a = rows.row(n, g);
     }
     g
 }
 
 // What is left of the system f once the leads below v are skipped.
-pub fn lead_at(
-    vs: &[u16],
-    ts: &[u16],
-    es: &[u16],
-    work: &[u64],
-    n: u16,
-    count: usize,
-    f: Row,
-    v: Var,
-) -> Row
-    requires { (Reducing n count (slices vs.now ts.now es.now) work.now f.0) × (v.0 < n) }
-    ensures { Skips n (rows_of (slices vs.now ts.now es.now) count) v.0 f.0 result.0 }
+pub fn lead_at(t: &Table<'_>, n: u16, f: Row, v: Var) -> Row
+    requires { ReducingIn n t.now f.0 × (v.0 < n) }
+    ensures { Skips n (rows_of (slices_of t.now) t.now.count) v.0 f.0 result.0 }
 {
-    if v.0 <= row_of(vs, ts, es, count, n, f).v.0 {
+    if v <= t.rows().row(n, f).v {
         return f;
     }
-    let from = words_used(vs.len(), work.len());
-    if work.len() - from < n as usize {
-        return walk(vs, ts, es, n, count, f, v);
+    let from = words_used(t.vs.len(), t.work.len());
+    if t.work.len() - from < n as usize {
+        return walk(&t.rows(), n, f, v);
     }
-    Row(work[from + v.0 as usize] as u16)
+    Row(t.work[from + v.0 as usize] as u16)
 }
 
 // What is left of g, whose leads are at v or behind it, once a lead at v is skipped, too.
-fn past(vs: &[u16], ts: &[u16], es: &[u16], n: u16, count: usize, g: Row, v: Var) -> Row
-    requires { Numbered count (slices vs.now ts.now es.now) g.0 }
-    ensures { Past n (rows_of (slices vs.now ts.now es.now) count) v.0 g.0 result.0 }
+fn past(rows: &Rows<'_>, n: u16, g: Row, v: Var) -> Row
+    requires { Numbered rows.now.count (viewed rows.now) g.0 }
+    ensures { Past n (shown rows.now) v.0 g.0 result.0 }
 {
-    let a = row_of(vs, ts, es, count, n, g);
-    if v.0 < a.v.0 {
+    let a = rows.row(n, g);
+    if v < a.v {
         return g;
     }
     a.t
 }
 
 // Writes the table of the system f, where there is room for it.
-pub fn fill(vs: &[u16], ts: &[u16], es: &[u16], work: &mut [u64], n: u16, count: usize, f: Row)
-    requires { (Live n count (slices vs.now ts.now es.now) work.old) × (System count f.0) }
-    ensures { Filled n count (slices vs.now ts.now es.now) work.old work.new f.0 }
+pub fn fill(t: &mut Table<'_>, n: u16, f: Row)
+    requires { LiveIn n t.old × System t.old.count f.0 }
+    ensures { FilledIn n t.old t.new f.0 }
 {
-    let from = words_used(vs.len(), work.len());
-    if work.len() - from < n as usize {
+    let from = words_used(t.vs.len(), t.work.len());
+    if t.work.len() - from < n as usize {
         return;
     }
     let mut g = f;
-    let mut v = Var(0);
-    while v.0 < n {
-        work[from + v.0 as usize] = g.0 as u64;
-        g = past(vs, ts, es, n, count, g, v);
-        v = Var(v.0 + 1);
+    for v in 0..n {
+        t.work[from + v as usize] = g.0 as u64;
+        g = past(&t.rows(), n, g, Var(v));
     }
 }

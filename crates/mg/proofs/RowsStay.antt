@@ -19,7 +19,7 @@ use Rattle.steps.proofs.Keeps.{Keeps, keeps_make, keeps_sums, keeps_products, ke
 use Rattle.steps.proofs.Room.{within_tells}
 use Rattle.steps.proofs.Rows.{◌≼◌, count_grows, row_keeps}
 use Rattle.steps.proofs.Table.{rows_of_count, rows_of_next, rows_of_row}
-use Rattle.table.specs.declared.Answer.{Answer}
+use Rattle.table.specs.Answers.{Answer}
 use Rattle.table.specs.Calls.{unless◌then◌else◌, checked, in_range, in_use, laid, freed, cleared, Left, left, refuse, end_in, take_steps, Does}
 use Rattle.table.specs.Lent.{room}
 use Rattle.numbers.specs.Calls.{variable_call}

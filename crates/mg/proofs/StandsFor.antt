@@ -12,8 +12,7 @@ use Rattle.verdicts.specs.StandsFor.{Accepts, NeverOne, LeastOne, TooFewRows, St
 use Rattle.verdicts.proofs.Outcomes.{kind, verdict_passes}
 use Rattle.verdicts.proofs.StandsFor.{stands_for}
 use Rattle.verdicts.proofs.Theorems.{verdict_two_exactly}
-use Rattle.endings.specs.Answers.{answer_of_judged, Answered}
-use Rattle.endings.specs.declared.Judged.{Judged}
+use Rattle.endings.specs.Answers.{Judged, answer_of_judged, Answered}
 use Rattle.shown.specs.Seen.{Shows, show_verdict}
 use Rattle.mg.proofs.Zero.{Verdict-seen, seen_0, seen_1, seen_2, circuit_zero}
 

@@ -4,14 +4,12 @@ use Prim.Native.Nat.{ℕ}
 use mathlib.Core.Path.{◌≡◌, refl, sym, ap, ◌∙◌}
 use mathlib.Core.List.{List}
 use Rattle.steps.specs.Table.{Slices}
-use Rattle.table.specs.declared.Answer.{Answer}
+use Rattle.table.specs.Answers.{Answer}
 use Rattle.table.specs.Calls.{Left, left, Does}
 use Rattle.numbers.specs.Calls.{variable_call, value_call, one_call, OneLeft, one_left, OneMeans}
 use Rattle.aiger.specs.Answers.{text_call}
 use Rattle.verdicts.specs.Calls.{Left as Circuit-left, left as circuit_left, Answer as Verdict, verdict_0, verdict_1, verdict_2, refusal, circuit_call}
-use Rattle.endings.specs.Answers.{answer_of_judged, Answered}
-use Rattle.endings.specs.declared.Judged.{Judged}
-use Rattle.endings.specs.declared.Judged.TheVariants.{Never, Can, RoomOut, Refused}
+use Rattle.endings.specs.Answers.{Judged, Never, Can, RoomOut, Refused, answer_of_judged, Answered}
 use Rattle.shown.specs.Seen.{Seen, seen, Shows, show_made, show_value, show_one, show_verdict, show_counts}
 
 -- answers that coincide are shown alike

@@ -13,28 +13,20 @@ use Rattle.steps.specs.Table.{Slices, rows_of}
 use Rattle.steps.specs.Steps.{Steps, make, normal}
 use Rattle.steps.specs.System.{equation}
 use Rattle.steps.specs.Room.{Ending, made, full, within}
-use Rattle.table.specs.declared.Answer.{Answer}
-use Rattle.table.specs.declared.Answer.TheVariants.{Made, Refused}
+use Rattle.table.specs.Answers.{Answer, Made, Refused}
 use Rattle.table.specs.Lent.{room}
 use Rattle.table.specs.Calls.{unless◌then◌else◌, checked, in_range, in_use, Left, left, refuse, end_in, take_steps, cleared, Does}
-use Rattle.numbers.specs.declared.Valued.{Valued}
-use Rattle.numbers.specs.declared.Valued.TheVariants.{Value, NoValue}
-use Rattle.numbers.specs.declared.Sought.{Sought}
-use Rattle.numbers.specs.declared.Sought.TheVariants.{One, NoOne}
+use Rattle.numbers.specs.Answers.{Valued, Value, NoValue, Sought, One, NoOne}
 use Rattle.numbers.specs.Calls.{variable_call, all_bits, value_call, OneLeft, one_left, one_call, OneMeans}
 use Rattle.pairs.specs.Calls.{pair_call, Means, Answered}
 use Rattle.normal.specs.Calls.{system_checked, in_order, equation_call, Adds, normal_call, Reduced}
 use Rattle.aiger.specs.Net.{Got, got, refused, Net, circuit}
-use Rattle.aiger.specs.Answers.{number_of_refusal, answer_of, text_call}
-use Rattle.aiger.specs.declared.net.Refusal.{Refusal}
-use Rattle.aiger.specs.declared.net.Refusal.TheVariants.{TooLong, Form, Limits, Literal, Order}
-use Rattle.aiger.specs.declared.Answer.{Answer as Text-answer}
-use Rattle.aiger.specs.declared.Answer.TheVariants.{Counted, Refused as Text-refused}
+use Rattle.aiger.specs.Answers.{Answer as Text-answer, Counted, Refused as Text-refused, number_of_refusal, answer_of, text_call}
+use Rattle.aiger.specs.declared.refusal.Refusal.{Refusal}
+use Rattle.aiger.specs.declared.refusal.Refusal.TheVariants.{TooLong, Form, Limits, Literal, Order}
 use Rattle.verdicts.specs.Calls.{refusal, Left as Circuit-left, refuse as refuse_circuit, lengths_fine, end_with, judge_read, circuit_call}
 use Rattle.verdicts.specs.Verdicts.{Verdict, never, can, room_out, verdict_of}
-use Rattle.endings.specs.Answers.{answer_of_judged, Answered as Circuit-answered}
-use Rattle.endings.specs.declared.Judged.{Judged}
-use Rattle.endings.specs.declared.Judged.TheVariants.{Never, Can, RoomOut, Refused as Circuit-refused}
+use Rattle.endings.specs.Answers.{Judged, Never, Can, RoomOut, Refused as Circuit-refused, answer_of_judged, Answered as Circuit-answered}
 use Rattle.shown.specs.Seen.{Seen, seen, Shows, show_made, show_value, show_one, show_verdict, show_counts}
 
 -- of outcomes D, of which some refuse with a number: d refuses with none that is 0

@@ -13,7 +13,8 @@ ghost use Rattle.verdicts.specs.Calls.{circuit_call};
 ghost use Rattle.endings.specs.Answers as judged;
 ghost use Rattle.shown.specs.Seen.{Shows, show_made, show_value, show_one, show_verdict, show_counts};
 
-use table::{Row, Var};
+use table::rows::View;
+use table::{Row, Table, Var};
 
 // The variable x_v.
 #[unsafe(no_mangle)]
@@ -34,8 +35,15 @@ pub extern "C" fn mg_variable(
         result (row.old, used.old) (row.new, used.new) }
     ensures work_after { work.new ≡ replicate (length work.old) 0 }
 {
-    let r = numbers::variable(n, vs, ts, es, count, work, Var(v));
-    shown::made(r, row, used)
+    let mut t = Table {
+        vs,
+        ts,
+        es,
+        count,
+        work,
+    };
+    let r = numbers::variable(n, &mut t, Var(v));
+    shown::made(r, t.count, row, used)
 }
 
 // The sum f + g.
@@ -59,8 +67,15 @@ pub extern "C" fn mg_sum(
         result (row.old, used.old) (row.new, used.new) }
     ensures work_after { work.new ≡ replicate (length work.old) 0 }
 {
-    let r = pairs::sum(n, vs, ts, es, count, work, Row(f), Row(g));
-    shown::made(r, row, used)
+    let mut t = Table {
+        vs,
+        ts,
+        es,
+        count,
+        work,
+    };
+    let r = pairs::sum(n, &mut t, Row(f), Row(g));
+    shown::made(r, t.count, row, used)
 }
 
 // The product f·g.
@@ -84,8 +99,15 @@ pub extern "C" fn mg_product(
         result (row.old, used.old) (row.new, used.new) }
     ensures work_after { work.new ≡ replicate (length work.old) 0 }
 {
-    let r = pairs::product(n, vs, ts, es, count, work, Row(f), Row(g));
-    shown::made(r, row, used)
+    let mut t = Table {
+        vs,
+        ts,
+        es,
+        count,
+        work,
+    };
+    let r = pairs::product(n, &mut t, Row(f), Row(g));
+    shown::made(r, t.count, row, used)
 }
 
 // The value of f at an assignment.
@@ -106,7 +128,8 @@ pub extern "C" fn mg_value(
         result value.old value.new }
     ensures work_after { work.new ≡ replicate (length work.old) 0 }
 {
-    let r = numbers::value(n, vs, ts, es, count, work, Row(f), bytes);
+    let view = View { vs, ts, es, count };
+    let r = numbers::value(n, &view, work, Row(f), bytes);
     shown::value(r, value)
 }
 
@@ -128,7 +151,8 @@ pub extern "C" fn mg_one(
         result tt tt }
     ensures work_after { work.new ≡ replicate (length work.old) 0 }
 {
-    let r = numbers::one(n, vs, ts, es, count, work, Row(f), bytes);
+    let view = View { vs, ts, es, count };
+    let r = numbers::one(n, &view, work, Row(f), bytes);
     shown::one(r)
 }
 
@@ -154,18 +178,15 @@ pub extern "C" fn mg_equation(
         result (row.old, used.old) (row.new, used.new) }
     ensures work_after { work.new ≡ replicate (length work.old) 0 }
 {
-    let r = normal::equation(
-        n,
+    let mut t = Table {
         vs,
         ts,
         es,
         count,
         work,
-        Var(lead),
-        Row(system),
-        Row(tail),
-    );
-    shown::made(r, row, used)
+    };
+    let r = normal::equation(n, &mut t, Var(lead), Row(system), Row(tail));
+    shown::made(r, t.count, row, used)
 }
 
 // The normal form of p by a system.
@@ -189,8 +210,15 @@ pub extern "C" fn mg_normal_form(
         result (row.old, used.old) (row.new, used.new) }
     ensures work_after { work.new ≡ replicate (length work.old) 0 }
 {
-    let r = normal::normal_form(n, vs, ts, es, count, work, Row(p), Row(system));
-    shown::made(r, row, used)
+    let mut t = Table {
+        vs,
+        ts,
+        es,
+        count,
+        work,
+    };
+    let r = normal::normal_form(n, &mut t, Row(p), Row(system));
+    shown::made(r, t.count, row, used)
 }
 
 // The verdict for one output of a circuit's text.
@@ -212,7 +240,14 @@ pub extern "C" fn mg_circuit(
         result (verdict.old, rows.old) (verdict.new, rows.new) }
     ensures work_after { work.new ≡ replicate (length work.old) 0 }
 {
-    let r = circuit::circuit(text, vs, ts, es, work, o, pattern);
+    let mut t = Table {
+        vs,
+        ts,
+        es,
+        count: 0,
+        work,
+    };
+    let r = circuit::circuit(text, &mut t, o, pattern);
     shown::verdict(r, verdict, rows)
 }
 

@@ -2,34 +2,40 @@
 #![tactic(auto)]
 
 mod body;
-pub mod for_circuit;
+mod defined;
 
 ghost use Rattle.std.specs.Prelude.{◌≡◌};
-ghost use Rattle.aiger.specs.Answers.{text_call};
+ghost use Rattle.aiger.specs.Net as net;
+ghost use Rattle.aiger.specs.Circuit.{net_of};
+ghost use Rattle.aiger.specs.Answers.{text_call, answer_of_text};
 
-use crate::for_circuit::{number_of, read_net};
-use aiger::Answer;
-use aiger::net::NetRead;
+use crate::body::read_body;
+use aiger::header::{limits, line_of_header};
+use aiger::net::Net;
+use aiger::refusal::Refusal;
 
-// The text call: the scope's checks from 9 to the output literals.
-pub fn text(s: &[u8]) -> Answer
-    ensures { result ≡ text_call s.now }
+// The net of a text, with the position behind its last gate line. Only for the crates of this project that stand above: no call of the scope is here.
+#[tactic(auto, unfolding(aiger::specs::Net::circuit))]
+pub fn read_net(s: &[u8]) -> Result<(Net, usize), Refusal>
+    ensures { net_of s.now result ≡ net.circuit s.now }
 {
-    let mut ins = [0u16; 1024];
-    let mut outs = [0u16; 1024];
-    let mut lefts = [0u16; 1024];
-    let mut rights0 = [0u16; 1024];
-    let mut rights1 = [0u16; 1024];
-    let r = read_net(
-        s,
-        &mut ins,
-        &mut outs,
-        &mut lefts,
-        &mut rights0,
-        &mut rights1,
-    );
-    match r {
-        NetRead::Whole(h, _) => Answer::Counted(h.inputs, h.outputs),
-        NetRead::Unread(why) => Answer::Refused(number_of(why)),
+    if 32768 < s.len() {
+        return Err(Refusal::TooLong);
     }
+    let line = line_of_header(s, 0);
+    let Ok((sizes, end)) = line else {
+        return Err(Refusal::Form(line.unwrap_err(), 1));
+    };
+    if !limits(sizes) {
+        return Err(Refusal::Limits);
+    }
+    read_body(s, end, sizes)
+}
+
+// The text call: the scope's checks from 9 to the output literals, then I and O.
+pub fn text(s: &[u8]) -> Result<(u16, u16), Refusal>
+    ensures { answer_of_text result ≡ text_call s.now }
+{
+    let (net, _) = read_net(s)?;
+    Ok((net.sizes.inputs, net.sizes.outputs))
 }

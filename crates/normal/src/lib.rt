@@ -1,182 +1,91 @@
 // The calls equation and normal form.
 #![tactic(auto)]
 
-ghost use Rattle.std.specs.Prelude.{◌≡◌, ◌≤◌, length, replicate};
-ghost use Rattle.steps.specs.Table.{slices};
-ghost use Rattle.table.specs.Memory.{Live};
+ghost use Rattle.std.specs.Prelude.{◌≡◌, ◌<◌, ◌+◌, length, replicate, OnErr};
+ghost use Rattle.table.specs.Answers.{answer_of};
 ghost use Rattle.table.specs.Calls.{Does};
-ghost use Rattle.normal.specs.Calls.{equation_checked, equation_call, Adds, normal_checked, normal_call, Reduced};
+ghost use Rattle.table.specs.Tables.{LiveIn};
+ghost use Rattle.table.specs.Views.{shown, slices_of, SameLoans};
+ghost use Rattle.checks.specs.Steps.{StepsTo};
+ghost use Rattle.normal.specs.Calls.{Questioned, in_order, equation_checked, equation_call, Adds, normal_checked, normal_call, Reduced};
 
-use checks::check::{Table, check};
-use checks::finish::finish;
+use checks::call::call;
 use reduction::reduce;
-use table::make::make;
-use table::rows::{Node, row_of};
-use table::{Answer, Row, Var};
-use zeros::zero_work;
+use table::rows::{Node, Rows};
+use table::{Refusal, Row, Table, Var};
 
-fn equation_ready(
-    n: usize,
-    vs: &mut [u16],
-    ts: &mut [u16],
-    es: &mut [u16],
-    count: usize,
-    work: &mut [u64],
-    lead: Var,
-    system: Row,
-    tail: Row,
-) -> Answer
-    requires { (Live n count (slices vs.old ts.old es.old) work.old) × (n ≤ 1024) }
-    ensures { Does (Adds count (slices vs.old ts.old es.old) lead.0 system.0 tail.0)
-        (equation_checked n count (slices vs.old ts.old es.old) lead.0 system.0 tail.0) result
-        (slices vs.new ts.new es.new) }
+// What both calls ask of a number and a system: they are in use, and the system is not 0.
+fn questions(rows: &Rows<'_>, k: Row, system: Row) -> Result<(), Refusal>
+    ensures { Questioned result rows.now.count k.0 system.0 }
 {
-    if count + 2 <= tail.0 as usize {
-        return Answer::Refused(3);
-    }
-    if count + 2 <= system.0 as usize {
-        return Answer::Refused(3);
+    if !rows.has(k) || !rows.has(system) {
+        return Err(Refusal::NotInUse);
     }
     if system.0 == 0 {
-        return Answer::Refused(4); // no system
+        return Err(Refusal::SystemZero);
     }
-    if n <= lead.0 as usize {
-        return Answer::Refused(5); // no such lead
-    }
-    if row_of(vs, ts, es, count, n as u16, system).v.0 <= lead.0 {
-        return Answer::Refused(5); // not before the system's leads
-    }
-    if row_of(vs, ts, es, count, n as u16, tail).v.0 <= lead.0 {
-        return Answer::Refused(5); // not before the tail's root
-    }
-    let made = make(
-        vs,
-        ts,
-        es,
-        work,
-        count,
-        Node {
-            v: lead,
-            t: system,
-            e: tail,
-        },
-    );
-    finish(vs, ts, es, count, made)
+    Ok(())
 }
 
-fn equation_checked(
-    n: usize,
-    vs: &mut [u16],
-    ts: &mut [u16],
-    es: &mut [u16],
-    count: usize,
-    work: &mut [u64],
-    lead: Var,
-    system: Row,
-    tail: Row,
-) -> Answer
-    ensures { Does (Adds count (slices vs.old ts.old es.old) lead.0 system.0 tail.0)
-        (equation_call n count (slices vs.old ts.old es.old) lead.0 system.0 tail.0) result
-        (slices vs.new ts.new es.new) }
+// Whether there is such a lead, and it is before the system's leads and the tail's root.
+fn in_order(rows: &Rows<'_>, n: u16, lead: Var, system: Row, tail: Row) -> bool
+    requires system { system.0 < rows.now.count + 2 }
+    requires tail { tail.0 < rows.now.count + 2 }
+    ensures { in_order n (shown rows.now) lead.0 system.0 tail.0 ≡ result }
 {
-    let table = check(n, vs, ts, es, count, work);
-    match table {
-        Table::OutOfRange => Answer::Refused(1),
-        Table::Unsound => Answer::Refused(2),
-        Table::Fine => equation_ready(n, vs, ts, es, count, work, lead, system, tail),
-    }
+    lead.0 < n && lead < rows.row(n, system).v && lead < rows.row(n, tail).v
 }
 
 // The system with the equation x_lead + tail = 0 added.
 pub fn equation(
     n: usize,
-    vs: &mut [u16],
-    ts: &mut [u16],
-    es: &mut [u16],
-    count: usize,
-    work: &mut [u64],
+    t: &mut Table<'_>,
     lead: Var,
     system: Row,
     tail: Row,
-) -> Answer
-    ensures does { Does (Adds count (slices vs.old ts.old es.old) lead.0 system.0 tail.0)
-        (equation_call n count (slices vs.old ts.old es.old) lead.0 system.0 tail.0) result
-        (slices vs.new ts.new es.new) }
-    ensures work_after { work.new ≡ replicate (length work.old) 0 }
+) -> Result<Row, Refusal>
+    ensures does { Does (Adds t.old.count (slices_of t.old) lead.0 system.0 tail.0)
+        (equation_call n t.old.count (slices_of t.old) lead.0 system.0 tail.0)
+        (answer_of result t.new.count) (slices_of t.new) }
+    ensures count { OnErr result (t.new.count ≡ t.old.count) }
+    ensures same { SameLoans t.old t.new }
+    ensures work_after { t.new.work.now ≡ replicate (length t.old.work.now) 0 }
 {
-    let r = equation_checked(n, vs, ts, es, count, work, lead, system, tail);
-    zero_work(work);
-    r
-}
-
-#[tactic(auto, using(crate::proofs::CallLaws::system_0))]
-fn normal_ready(
-    n: usize,
-    vs: &mut [u16],
-    ts: &mut [u16],
-    es: &mut [u16],
-    count: usize,
-    work: &mut [u64],
-    p: Row,
-    f: Row,
-) -> Answer
-    requires { (Live n count (slices vs.old ts.old es.old) work.old) × (n ≤ 1024) }
-    ensures { Does (Reduced count (slices vs.old ts.old es.old) p.0 f.0)
-        (normal_checked n count (slices vs.old ts.old es.old) p.0 f.0) result
-        (slices vs.new ts.new es.new) }
-{
-    if count + 2 <= p.0 as usize {
-        return Answer::Refused(3);
-    }
-    if count + 2 <= f.0 as usize {
-        return Answer::Refused(3);
-    }
-    if f.0 == 0 {
-        return Answer::Refused(4);
-    }
-    let made = reduce(vs, ts, es, work, n as u16, count, p, f);
-    finish(vs, ts, es, count, made)
-}
-
-fn normal_checked(
-    n: usize,
-    vs: &mut [u16],
-    ts: &mut [u16],
-    es: &mut [u16],
-    count: usize,
-    work: &mut [u64],
-    p: Row,
-    f: Row,
-) -> Answer
-    ensures { Does (Reduced count (slices vs.old ts.old es.old) p.0 f.0)
-        (normal_call n count (slices vs.old ts.old es.old) p.0 f.0) result
-        (slices vs.new ts.new es.new) }
-{
-    let table = check(n, vs, ts, es, count, work);
-    match table {
-        Table::OutOfRange => Answer::Refused(1),
-        Table::Unsound => Answer::Refused(2),
-        Table::Fine => normal_ready(n, vs, ts, es, count, work, p, f),
-    }
+    let steps = move |t: &mut Table<'_>, n: u16| -> Result<Row, Refusal>
+        requires { LiveIn n t.old }
+        ensures { StepsTo (equation_checked n t.old.count (slices_of t.old) lead.0 system.0 tail.0) result t.old t.new }
+    {
+        let rows = t.rows();
+        questions(&rows, tail, system)?;
+        if !in_order(&rows, n, lead, system, tail) {
+            return Err(Refusal::BadVariable);
+        }
+        let made = t.make(Node {
+            v: lead,
+            t: system,
+            e: tail,
+        })?;
+        Ok(made)
+    };
+    call(n, t, steps)
 }
 
 // The normal form of p by the system f.
-pub fn normal_form(
-    n: usize,
-    vs: &mut [u16],
-    ts: &mut [u16],
-    es: &mut [u16],
-    count: usize,
-    work: &mut [u64],
-    p: Row,
-    f: Row,
-) -> Answer
-    ensures does { Does (Reduced count (slices vs.old ts.old es.old) p.0 f.0)
-        (normal_call n count (slices vs.old ts.old es.old) p.0 f.0) result
-        (slices vs.new ts.new es.new) }
-    ensures work_after { work.new ≡ replicate (length work.old) 0 }
+pub fn normal_form(n: usize, t: &mut Table<'_>, p: Row, f: Row) -> Result<Row, Refusal>
+    ensures does { Does (Reduced t.old.count (slices_of t.old) p.0 f.0)
+        (normal_call n t.old.count (slices_of t.old) p.0 f.0)
+        (answer_of result t.new.count) (slices_of t.new) }
+    ensures count { OnErr result (t.new.count ≡ t.old.count) }
+    ensures same { SameLoans t.old t.new }
+    ensures work_after { t.new.work.now ≡ replicate (length t.old.work.now) 0 }
 {
-    let r = normal_checked(n, vs, ts, es, count, work, p, f);
-    zero_work(work);
-    r
+    let steps = move |t: &mut Table<'_>, n: u16| -> Result<Row, Refusal>
+        requires { LiveIn n t.old }
+        ensures { StepsTo (normal_checked n t.old.count (slices_of t.old) p.0 f.0) result t.old t.new }
+    {
+        questions(&t.rows(), p, f)?;
+        let made = reduce(t, n, p, f)?;
+        Ok(made)
+    };
+    call(n, t, steps)
 }

@@ -13,7 +13,7 @@ use Rattle.steps.specs.Table.{slices, rows_of}
 use Rattle.table.specs.Calls.{in_range, column, laid}
 use Rattle.assignments.specs.Bytes.{bytes_of}
 use Rattle.numbers.specs.Calls.{OneLeft, one_call}
-use Rattle.numbers.specs.declared.Sought.TheVariants.{One, NoOne}
+use Rattle.numbers.specs.Answers.{One, NoOne}
 
 -- polynomials and systems as the steps that make them
 abbrev x : ℕ → Steps

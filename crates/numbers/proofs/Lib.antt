@@ -1,3 +1,3 @@
-pub mod Exits
+pub mod Bits
 pub mod Meanings
 pub mod Cases

@@ -13,11 +13,9 @@ use Rattle.steps.proofs.Sound.{sound_true}
 use Rattle.assignments.proofs.Ones.{one_means}
 use Rattle.assignments.specs.Bytes.{bytes_of}
 use Rattle.numbers.specs.Calls.{variable_call, value_call, OneLeft, one_left, one_call, OneMeans}
-use Rattle.numbers.specs.declared.Sought.{Sought}
-use Rattle.numbers.specs.declared.Sought.TheVariants.{One, NoOne}
-use Rattle.numbers.specs.declared.Valued.{Valued}
+use Rattle.numbers.specs.Answers.{Valued, Sought, One, NoOne}
 use Rattle.table.specs.Calls.{in_range, in_use, left}
-use Rattle.table.specs.declared.Answer.{Answer}
+use Rattle.table.specs.Answers.{Answer}
 
 -- a one that was answered is a one, and the least
 module _ (N c : ℕ) (s : Slices) (f : ℕ) (bytes : List ℕ) where

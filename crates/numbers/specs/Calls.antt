@@ -8,10 +8,7 @@ use Rattle.steps.specs.Steps.{make}
 use Rattle.steps.specs.One.{one, NotGreater}
 use Rattle.table.specs.Calls.{unless◌then◌else◌, checked, in_range, in_use, Left, refuse, take_steps}
 use Rattle.assignments.specs.Bytes.{assigned, bytes_of}
-use Rattle.numbers.specs.declared.Valued.{Valued}
-use Rattle.numbers.specs.declared.Valued.TheVariants.{Value, NoValue}
-use Rattle.numbers.specs.declared.Sought.{Sought}
-use Rattle.numbers.specs.declared.Sought.TheVariants.{One, NoOne}
+use Rattle.numbers.specs.Answers.{Valued, Value, NoValue, Sought, One, NoOne}
 
 -- the variable x_v, "made as (v, 1, 0)"; "5: [..] a lead or asked variable not below N"
 abbrev pub variable_checked : ℕ → ℕ → Slices → ℕ → Left

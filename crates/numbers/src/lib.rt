@@ -1,231 +1,130 @@
 // The public calls on a table that need no arithmetic: the variable x_v, the value of a number at an assignment, and a one of it.
 #![tactic(auto)]
 
-ghost use Rattle.std.specs.Prelude.{◌≡◌, length, replicate};
-ghost use Rattle.steps.specs.Table.{slices};
-ghost use Rattle.table.specs.Memory.{Live};
+ghost use Rattle.std.specs.Prelude.{◌≡◌, length, replicate, OnErr};
+ghost use Rattle.table.specs.Answers.{answer_of};
 ghost use Rattle.table.specs.Calls.{left};
-ghost use Rattle.assignments.specs.Inner.{Lasting};
-ghost use Rattle.numbers.specs.Calls.{variable_checked, variable_call, all_bits, value_checked, value_call, one_left, one_checked, one_call, OneMeans};
+ghost use Rattle.table.specs.Views.{slices_seen, slices_of, SameLoans};
+ghost use Rattle.numbers.specs.Answers.{valued_of, sought_of};
+ghost use Rattle.table.specs.Tables.{LiveIn};
+ghost use Rattle.checks.specs.Steps.{StepsTo};
+ghost use Rattle.numbers.specs.Calls.{variable_checked, variable_call, all_bits, value_call, one_left, one_call, OneMeans};
 
 use assignments::evaluate::value_at;
 use assignments::seek::one_of;
-use checks::check::{Table, check};
-use checks::finish::finish;
-use table::make::make;
-use table::rows::Node;
-use table::{Answer, Row, Var};
-use zeros::zero_work;
+use checks::call::call;
+use checks::check::check;
+use table::rows::{Node, View};
+use table::{Refusal, Row, Table, Var};
 
-// What the call value answers.
-#[derive(Clone, Copy)]
-pub enum Valued {
-    Value(bool),
-    NoValue(u16),
-}
-
-// What finding a one answers.
-#[derive(Clone, Copy)]
-pub enum Sought {
-    One,
-    NoOne(u16),
-}
-
-fn variable_ready(
-    n: usize,
-    vs: &mut [u16],
-    ts: &mut [u16],
-    es: &mut [u16],
-    count: usize,
-    work: &mut [u64],
-    v: Var,
-) -> Answer
-    requires { Live n count (slices vs.old ts.old es.old) work.old }
-    ensures { variable_checked n count (slices vs.old ts.old es.old) v.0 ≡ left result
-        (slices vs.new ts.new es.new) }
+// The variable x_v.
+pub fn variable(n: usize, t: &mut Table<'_>, v: Var) -> Result<Row, Refusal>
+    ensures v_value { variable_call n t.old.count (slices_of t.old) v.0 ≡ left (answer_of result t.new.count) (slices_of t.new) }
+    ensures count { OnErr result (t.new.count ≡ t.old.count) }
+    ensures same { SameLoans t.old t.new }
+    ensures work_after { t.new.work.now ≡ replicate (length t.old.work.now) 0 }
 {
-    if n <= v.0 as usize {
-        return Answer::Refused(5);
-    }
-    let made = make(
-        vs,
-        ts,
-        es,
-        work,
-        count,
-        Node {
+    let steps = move |t: &mut Table<'_>, n: u16| -> Result<Row, Refusal>
+        requires { LiveIn n t.old }
+        ensures { StepsTo (variable_checked n t.old.count (slices_of t.old) v.0) result t.old t.new }
+    {
+        if n <= v.0 {
+            return Err(Refusal::BadVariable);
+        }
+        let made = t.make(Node {
             v,
             t: Row(1),
             e: Row(0),
-        },
-    );
-    finish(vs, ts, es, count, made)
-}
-
-fn variable_checked(
-    n: usize,
-    vs: &mut [u16],
-    ts: &mut [u16],
-    es: &mut [u16],
-    count: usize,
-    work: &mut [u64],
-    v: Var,
-) -> Answer
-    ensures { variable_call n count (slices vs.old ts.old es.old) v.0 ≡ left result
-        (slices vs.new ts.new es.new) }
-{
-    let table = check(n, vs, ts, es, count, work);
-    match table {
-        Table::OutOfRange => Answer::Refused(1),
-        Table::Unsound => Answer::Refused(2),
-        Table::Fine => variable_ready(n, vs, ts, es, count, work, v),
-    }
-}
-
-// The variable x_v.
-pub fn variable(
-    n: usize,
-    vs: &mut [u16],
-    ts: &mut [u16],
-    es: &mut [u16],
-    count: usize,
-    work: &mut [u64],
-    v: Var,
-) -> Answer
-    ensures v_value { variable_call n count (slices vs.old ts.old es.old) v.0 ≡ left result
-        (slices vs.new ts.new es.new) }
-    ensures work_after { work.new ≡ replicate (length work.old) 0 }
-{
-    let r = variable_checked(n, vs, ts, es, count, work, v);
-    zero_work(work);
-    r
+        })?;
+        Ok(made)
+    };
+    call(n, t, steps)
 }
 
 // Whether all bytes are 0 or 1.
 fn all_bits(bytes: &[u8]) -> bool
     ensures { all_bits bytes.now ≡ result }
 {
-    let mut i = 0;
-    while i < bytes.len() {
-        if 1 < bytes[i] {
-            return false;
-        }
-        i += 1;
-    }
-    true
+    bytes.iter().all(|b| *b < 2)
 }
 
-fn value_ready(vs: &[u16], ts: &[u16], es: &[u16], count: usize, f: Row, bytes: &[u8]) -> Valued
-    requires { Lasting count (slices vs.now ts.now es.now) bytes.now }
-    ensures { value_checked count (slices vs.now ts.now es.now) f.0 bytes.now ≡ result }
-{
-    if count + 2 <= f.0 as usize {
-        return Valued::NoValue(3);
-    }
-    if !all_bits(bytes) {
-        return Valued::NoValue(8);
-    }
-    Valued::Value(value_at(vs, ts, es, count, bytes, f))
-}
-
+#[tactic(auto, using(checks::proofs::Findings::refused_by, checks::proofs::Findings::all_fine), unfolding(crate::specs::Calls::value_call))]
 fn value_checked(
     n: usize,
-    vs: &[u16],
-    ts: &[u16],
-    es: &[u16],
-    count: usize,
+    view: &View<'_>,
     work: &mut [u64],
     f: Row,
     bytes: &[u8],
-) -> Valued
-    ensures { value_call n count (slices vs.now ts.now es.now) f.0 bytes.now ≡ result }
+) -> Result<bool, Refusal>
+    ensures { value_call n view.now.count (slices_seen view.now) f.0 bytes.now ≡ valued_of result }
 {
     if bytes.len() != n {
-        return Valued::NoValue(1);
+        return Err(Refusal::OutOfRange);
     }
-    let table = check(n, vs, ts, es, count, work);
-    match table {
-        Table::OutOfRange => Valued::NoValue(1),
-        Table::Unsound => Valued::NoValue(2),
-        Table::Fine => value_ready(vs, ts, es, count, f, bytes),
+    let rows = check(n, view, work)?;
+    if !rows.has(f) {
+        return Err(Refusal::NotInUse);
     }
+    if !all_bits(bytes) {
+        return Err(Refusal::NotABit);
+    }
+    Ok(value_at(&rows, bytes, f))
 }
 
 // The value of the number f at an assignment.
 pub fn value(
     n: usize,
-    vs: &[u16],
-    ts: &[u16],
-    es: &[u16],
-    count: usize,
+    view: &View<'_>,
     work: &mut [u64],
     f: Row,
     bytes: &[u8],
-) -> Valued
-    ensures bytes_value { value_call n count (slices vs.now ts.now es.now) f.0 bytes.now ≡ result }
+) -> Result<bool, Refusal>
+    ensures bytes_value { value_call n view.now.count (slices_seen view.now) f.0 bytes.now ≡ valued_of result }
     ensures work_after { work.new ≡ replicate (length work.old) 0 }
 {
-    let r = value_checked(n, vs, ts, es, count, work, f, bytes);
-    zero_work(work);
-    r
+    let value = value_checked(n, view, work, f, bytes);
+    work.fill(0);
+    value
 }
 
-fn one_ready(vs: &[u16], ts: &[u16], es: &[u16], count: usize, f: Row, bytes: &mut [u8]) -> Sought
-    requires { Lasting count (slices vs.now ts.now es.now) bytes.old }
-    ensures { one_checked (length bytes.old) count (slices vs.now ts.now es.now) f.0
-        bytes.old ≡ one_left result bytes.new }
-{
-    if count + 2 <= f.0 as usize {
-        return Sought::NoOne(3);
-    }
-    if f.0 == 0 {
-        return Sought::NoOne(6);
-    }
-    one_of(vs, ts, es, count, f, bytes);
-    Sought::One
-}
-
+#[tactic(auto, using(checks::proofs::Findings::refused_by, checks::proofs::Findings::all_fine), unfolding(crate::specs::Calls::one_call))]
 fn one_checked(
     n: usize,
-    vs: &[u16],
-    ts: &[u16],
-    es: &[u16],
-    count: usize,
+    view: &View<'_>,
     work: &mut [u64],
     f: Row,
     bytes: &mut [u8],
-) -> Sought
-    ensures { one_call n count (slices vs.now ts.now es.now) f.0 bytes.old ≡ one_left result
-        bytes.new }
+) -> Result<(), Refusal>
+    ensures { one_call n view.now.count (slices_seen view.now) f.0 bytes.old ≡ one_left (sought_of result) bytes.new }
 {
     if bytes.len() != n {
-        return Sought::NoOne(1);
+        return Err(Refusal::OutOfRange);
     }
-    let table = check(n, vs, ts, es, count, work);
-    match table {
-        Table::OutOfRange => Sought::NoOne(1),
-        Table::Unsound => Sought::NoOne(2),
-        Table::Fine => one_ready(vs, ts, es, count, f, bytes),
+    let rows = check(n, view, work)?;
+    if !rows.has(f) {
+        return Err(Refusal::NotInUse);
     }
+    if f.0 == 0 {
+        return Err(Refusal::NoOne);
+    }
+    one_of(&rows, f, bytes);
+    Ok(())
 }
 
 // A one of the number f: the least.
+#[tactic(auto, using(crate::proofs::Meanings::one_call_means))]
 pub fn one(
     n: usize,
-    vs: &[u16],
-    ts: &[u16],
-    es: &[u16],
-    count: usize,
+    view: &View<'_>,
     work: &mut [u64],
     f: Row,
     bytes: &mut [u8],
-) -> Sought
-    ensures bytes_value { one_call n count (slices vs.now ts.now es.now) f.0 bytes.old ≡ one_left result
-        bytes.new }
-    ensures one_means { OneMeans result count (slices vs.now ts.now es.now) f.0 bytes.new }
+) -> Result<(), Refusal>
+    ensures bytes_value { one_call n view.now.count (slices_seen view.now) f.0 bytes.old ≡ one_left (sought_of result) bytes.new }
+    ensures one_means { OneMeans (sought_of result) view.now.count (slices_seen view.now) f.0 bytes.new }
     ensures work_after { work.new ≡ replicate (length work.old) 0 }
 {
-    let r = one_checked(n, vs, ts, es, count, work, f, bytes);
-    zero_work(work);
-    r
+    let found = one_checked(n, view, work, f, bytes);
+    work.fill(0);
+    found
 }

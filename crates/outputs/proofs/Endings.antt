@@ -1,6 +1,6 @@
 -- What the steps from the system come to.
 use Prim.Native.Nat.{ℕ, zero, suc}
-use mathlib.Core.Path.{◌≡◌, refl, sym, ap, subst, ◌∙◌}
+use mathlib.Core.Path.{◌≡◌, refl, sym, ap, ◌∙◌}
 use mathlib.Core.List.{List}
 use native.Mathlib.Omega.{arith}
 use Rattle.steps.specs.One.{one}
@@ -11,8 +11,7 @@ use Rattle.steps.proofs.Keeps.{Keeps, keeps_normals}
 use Rattle.steps.proofs.Table.{rows_of_next, rows_of_count}
 use Rattle.steps.proofs.Theorems.{right, normal_right}
 use Rattle.table.specs.declared.Row.{Row}
-use Rattle.table.specs.declared.make.Made.{Made}
-use Rattle.table.specs.declared.make.Made.TheVariants.{At, Full}
+use Rattle.table.specs.Made.{Made, At, Full}
 use Rattle.table.specs.Inner.{Taken, Kept}
 use Rattle.table.specs.Lent.{room}
 use Rattle.table.proofs.Takes.{taken_rows, taken_full, taken_then}
@@ -21,13 +20,9 @@ use Rattle.verdicts.specs.Calls.{verdict_0, verdict_1}
 use Rattle.verdicts.specs.Systems.{literal_steps}
 use Rattle.verdicts.proofs.Building.{literal_ok}
 use Rattle.gates.specs.Inner.{LiteralAsked}
-use Rattle.endings.specs.declared.Judged.TheVariants.{Never, Can, RoomOut}
+use Rattle.endings.specs.Answers.{Never, Can, RoomOut}
 use Rattle.endings.specs.Inner.{bytes_at, PatternAsked}
 use Rattle.outputs.specs.Inner.{output_from, ending_answer, ending_pattern, FromAsked, Stays, Ended}
-
--- the answer as it is known after a match
-pub took_is : {N : ℕ} {m : Steps} {r r' : Made} {c : ℕ} {s s' : Slices} {work work' : List ℕ} → r ≡ r' → Took N m r c s s' work work' → Took N m r' c s s' work work'
-took_is {N} {m} {c = c} {s} {s'} {work} {work'} p d = subst (λ (x : Made). Took N m x c s s' work work') p d
 
 taken_stays : {m : Steps} {r : Made} {c : ℕ} {s s' : Slices} → Taken m r c s s' → Stays c s s'
 taken_stays t = record { vars = t.vars; thens = t.thens; elses = t.elses; kept = t.kept }

@@ -6,36 +6,33 @@ use Rattle.steps.specs.Room.{Ending, made, full, within}
 use Rattle.steps.specs.Rows.{none, count}
 use Rattle.steps.specs.Steps.{Steps, answer, ◌>>=◌, normal}
 use Rattle.steps.specs.Table.{Slices, rows_of}
-use Rattle.table.specs.declared.make.Made.{Made}
-use Rattle.table.specs.declared.make.Made.TheVariants.{At, Full}
-use Rattle.table.specs.Lent.{room}
+use Rattle.table.specs.Made.{Made, At, Full}
+use Rattle.table.specs.Lent.{room, Lent}
 use Rattle.table.specs.Memory.{Live}
 use Rattle.leads.specs.Inner.{System}
-use Rattle.aiger.specs.Answers.{Slices as NetSlices, net_in}
-use Rattle.aiger.specs.Net.{Net}
-use Rattle.aiger.specs.declared.header.Sizes.{Sizes}
+use Rattle.aiger.specs.Net as net
+use Rattle.aiger.specs.Circuit.{circuit_of}
+use Rattle.aiger.specs.declared.net.Net.{Net}
 use Rattle.verdicts.specs.Calls.{Answer, verdict_0, verdict_1, verdict_2, end_with}
 use Rattle.verdicts.specs.Systems.{literal_steps, build}
 use Rattle.verdicts.specs.Verdicts.{verdict_of, room_out}
-use Rattle.endings.specs.declared.Judged.{Judged}
-use Rattle.endings.specs.Answers.{answer_of_judged}
-use Rattle.gates.specs.Inner.{NetAsked}
+use Rattle.endings.specs.Answers.{Judged, answer_of_judged}
 use Rattle.endings.specs.Inner.{bytes_at}
 
 -- the first c rows are those of the whole system, which is the number F
-pub record Built (s : Slices) (h : Sizes) (x : NetSlices) (c F : ℕ) : Type 0 where
-  pub read : NetAsked s h x
+pub record Built (s : Slices) (n : Net) (c F : ℕ) : Type 0 where
+  pub lent : Lent 0 s
   pub fits : c ≤ room s
-  pub system : build (net_in h x).M (net_in h x).gates 1 none ≡ answer F (rows_of s c)
+  pub system : build (circuit_of n).M (circuit_of n).gates 1 none ≡ answer F (rows_of s c)
 
 -- what the system comes to: it is built, or no output has room
-abbrev pub BuiltIf : Made → Slices → Sizes → NetSlices → Type 0
-BuiltIf (At F c) s h x = Built s h x c F.0
-BuiltIf Full s h x = (o : ℕ) → verdict_of (net_in h x) (room s) o ≡ room_out
+abbrev pub BuiltIf : Made → Slices → Net → Type 0
+BuiltIf (At F c) s n = Built s n c F.0
+BuiltIf Full s n = (o : ℕ) → verdict_of (circuit_of n) (room s) o ≡ room_out
 
-pub record Builds (r : Made) (s s' : Slices) (h : Sizes) (x : NetSlices) : Type 0 where
+pub record Builds (r : Made) (s s' : Slices) (n : Net) : Type 0 where
   pub same_room : room s' ≡ room s
-  pub built : BuiltIf r s' h x
+  pub built : BuiltIf r s' n
 
 -- "its literal, then the normal form by the whole system"
 abbrev pub output_from : ℕ → ℕ → ℕ → Steps
@@ -76,13 +73,13 @@ pub record Ended (m : Steps) (M : ℕ) (ls : List ℕ) (r : Judged) (c : ℕ) (s
   pub stays : Stays c s s'
 
 -- one output of those that there are, with a pattern of I bytes
-pub record OutputOf (s : Slices) (h : Sizes) (x : NetSlices) (c F o I : ℕ) : Type 0 where
-  pub built : Built s h x c F
-  pub there : o < h.outputs
-  pub long : I ≡ h.inputs
+pub record OutputOf (s : Slices) (n : Net) (c F o I : ℕ) : Type 0 where
+  pub built : Built s n c F
+  pub there : o < n.sizes.outputs
+  pub long : I ≡ n.sizes.inputs
 
 -- THE VERDICT IS THE CIRCUIT CALL'S, in any table of this size: its answer, and what it does to the pattern; and the system's rows stay
-pub record JudgedAs (net : Net) (o : ℕ) (r : Judged) (c : ℕ) (s s' : Slices) (p p' : List ℕ) : Type 0 where
-  pub answer : (end_with (verdict_of net (room s) o) s p).answer ≡ answer_of_judged r
-  pub pattern : (end_with (verdict_of net (room s) o) s p).pattern ≡ p'
+pub record JudgedAs (circuit : net.Net) (o : ℕ) (r : Judged) (c : ℕ) (s s' : Slices) (p p' : List ℕ) : Type 0 where
+  pub answer : (end_with (verdict_of circuit (room s) o) s p).answer ≡ answer_of_judged r
+  pub pattern : (end_with (verdict_of circuit (room s) o) s p).pattern ≡ p'
   pub stays : Stays c s s'

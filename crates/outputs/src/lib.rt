@@ -2,133 +2,79 @@
 // call's, from an empty table of the same size.
 #![tactic(auto)]
 
-ghost use Rattle.std.specs.Prelude.{length, take};
-ghost use Rattle.steps.specs.Table.{slices};
-ghost use Rattle.table.specs.Memory.{Live};
-ghost use Rattle.aiger.specs.Answers as net;
-ghost use Rattle.gates.specs.Inner.{NetAsked};
+ghost use Rattle.std.specs.Prelude.{◌≡◌, length, take};
+ghost use Rattle.table.specs.Lent.{Lent};
+ghost use Rattle.table.specs.Made.{made_of};
+ghost use Rattle.table.specs.Views.{slices_of, SameLoans};
+ghost use Rattle.aiger.specs.Answers.{literals_in};
+ghost use Rattle.aiger.specs.Circuit.{circuit_of};
+ghost use Rattle.endings.specs.Answers.{judged};
 ghost use Rattle.outputs.specs.Inner.{Builds, output_from, FromAsked, Ended, OutputOf, JudgedAs};
 
-use aiger::header::Sizes;
 use aiger::lines::Lit;
-use checks::check::{Table, check};
-use endings::Judged;
+use aiger::net::Net;
+use checks::check::check_table;
+use endings::Verdict;
 use endings::pattern::write_pattern;
 use gates::system::{build, literal};
 use reduction::reduce;
-use table::Row;
-use table::make::Made;
-
-fn system_ready(
-    h: Sizes,
-    ins: &[u16],
-    outs: &[u16],
-    lefts: &[u16],
-    rights0: &[u16],
-    rights1: &[u16],
-    vs: &mut [u16],
-    ts: &mut [u16],
-    es: &mut [u16],
-    work: &mut [u64],
-) -> Made
-    requires { (NetAsked (slices vs.old ts.old es.old) h (net.slices ins.now outs.now lefts.now rights0.now rights1.now)) ×
-        (Live h.vars 0 (slices vs.old ts.old es.old) work.old) }
-    ensures { Builds result (slices vs.old ts.old es.old) (slices vs.new ts.new es.new) h
-        (net.slices ins.now outs.now lefts.now rights0.now rights1.now) }
-{
-    let n = h.vars;
-    let gates = h.gates as usize;
-    build(vs, ts, es, work, n, lefts, rights0, rights1, gates)
-}
+use table::{NoRoom, Row, Table};
 
 // The system of all gates, from row 0 on.
-pub fn system(
-    h: Sizes,
-    ins: &[u16],
-    outs: &[u16],
-    lefts: &[u16],
-    rights0: &[u16],
-    rights1: &[u16],
-    vs: &mut [u16],
-    ts: &mut [u16],
-    es: &mut [u16],
-    work: &mut [u64],
-) -> Made
-    requires { NetAsked (slices vs.old ts.old es.old) h (net.slices ins.now outs.now lefts.now rights0.now rights1.now) }
-    ensures { Builds result (slices vs.old ts.old es.old) (slices vs.new ts.new es.new) h
-        (net.slices ins.now outs.now lefts.now rights0.now rights1.now) }
+pub fn system(net: &Net, t: &mut Table<'_>) -> Result<Row, NoRoom>
+    requires { Lent 0 (slices_of t.old) }
+    ensures builds { Builds (made_of result t.new.count) (slices_of t.old) (slices_of t.new) net.now }
+    ensures same { SameLoans t.old t.new }
 {
-    let table = check(h.vars as usize, vs, ts, es, 0, work);
-    match table {
-        Table::Fine => system_ready(h, ins, outs, lefts, rights0, rights1, vs, ts, es, work),
-        Table::OutOfRange => Made::Full,
-        Table::Unsound => Made::Full,
-    }
+    let n = net.sizes.vars;
+    t.count = 0;
+    let Ok(()) = check_table(n as usize, t) else {
+        return Err(NoRoom); // never: an empty table in range is sound
+    };
+    build(t, n, net.gates())
 }
 
 // The output of the literal l, from the system: a pattern only where it can be 1.
 fn judge_from(
-    vs: &mut [u16],
-    ts: &mut [u16],
-    es: &mut [u16],
-    work: &mut [u64],
+    t: &mut Table<'_>,
     n: u16,
-    count: usize,
     l: Lit,
     system: Row,
-    ins: &[u16],
+    inputs: &[Lit],
     pattern: &mut [u8],
-) -> Judged
-    requires { FromAsked n count (slices vs.old ts.old es.old) work.old l.0 system.0 ins.now (length pattern.old) }
-    ensures { Ended (output_from n l.0 system.0) n (take (length pattern.old) ins.now) result count
-        (slices vs.old ts.old es.old) (slices vs.new ts.new es.new)
-        pattern.old pattern.new }
+) -> Verdict
+    requires { FromAsked n t.old.count (slices_of t.old) t.old.work.now l.0 system.0 (literals_in inputs.now) (length pattern.old) }
+    ensures ended { Ended (output_from n l.0 system.0) n (take (length pattern.old) (literals_in inputs.now)) (judged result) t.old.count
+        (slices_of t.old) (slices_of t.new) pattern.old pattern.new }
+    ensures same { SameLoans t.old t.new }
 {
-    let Made::At(p, c1) = literal(vs, ts, es, work, n, count, l) else {
-        return Judged::RoomOut; // none for the literal
+    let Ok(p) = literal(t, n, l) else {
+        return Verdict::RoomOut; // none for the literal
     };
-    let Made::At(k, c2) = reduce(vs, ts, es, work, n, c1, p, system) else {
-        return Judged::RoomOut; // none for its normal form
+    let Ok(k) = reduce(t, n, p, system) else {
+        return Verdict::RoomOut; // none for its normal form
     };
     if k.0 == 0 {
-        return Judged::Never(c2);
+        return Verdict::Never(t.count);
     }
-    write_pattern(vs, ts, es, c2, n, k, ins, pattern);
-    Judged::Can(c2)
+    write_pattern(&t.rows(), n, k, inputs, pattern);
+    Verdict::Can(t.count)
 }
 
-// The verdict for output o, from the system's rows: the check enters them anew, so that nothing is remembered of rows behind them.
-pub fn judge(
-    h: Sizes,
-    ins: &[u16],
-    outs: &[u16],
-    lefts: &[u16],
-    rights0: &[u16],
-    rights1: &[u16],
-    vs: &mut [u16],
-    ts: &mut [u16],
-    es: &mut [u16],
-    work: &mut [u64],
-    count: usize,
-    system: Row,
-    o: usize,
-    pattern: &mut [u8],
-) -> Judged
-    requires { OutputOf (slices vs.old ts.old es.old) h (net.slices ins.now outs.now lefts.now rights0.now rights1.now) count system.0 o
-        (length pattern.old) }
-    ensures { JudgedAs
-        (net.net_in h (net.slices ins.now outs.now lefts.now rights0.now rights1.now)) o result
-        count (slices vs.old ts.old es.old) (slices vs.new ts.new es.new)
-        pattern.old pattern.new }
+// The verdict for output o, from the system's rows: the check enters them anew, so that nothing is remembered of rows behind them, and they are again the rows in use at the end.
+pub fn judge(net: &Net, t: &mut Table<'_>, system: Row, o: usize, pattern: &mut [u8]) -> Verdict
+    requires { OutputOf (slices_of t.old) net.now t.old.count system.0 o (length pattern.old) }
+    ensures judged { JudgedAs (circuit_of net.now) o (judged result) t.old.count
+        (slices_of t.old) (slices_of t.new) pattern.old pattern.new }
+    ensures count { t.new.count ≡ t.old.count }
+    ensures same { SameLoans t.old t.new }
 {
-    let table = check(h.vars as usize, vs, ts, es, count, work);
-    match table {
-        Table::Fine => {
-            let n = h.vars;
-            let l = Lit(outs[o]);
-            judge_from(vs, ts, es, work, n, count, l, system, ins, pattern)
-        }
-        Table::OutOfRange => Judged::RoomOut,
-        Table::Unsound => Judged::RoomOut,
-    }
+    let n = net.sizes.vars;
+    let count = t.count;
+    let Ok(()) = check_table(n as usize, t) else {
+        return Verdict::RoomOut; // never: the system's rows are sound
+    };
+    let verdict = judge_from(t, n, net.outputs()[o], system, net.inputs(), pattern);
+    t.count = count;
+    verdict
 }

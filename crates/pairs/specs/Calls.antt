@@ -1,24 +1,12 @@
 -- What the calls sum and product answer, leave and mean, for all inputs.
 -- Assumes nothing: these are definitions.
 use Rattle.std.specs.Prelude.{ℕ, ◌≡◌, Bool, ◌&&◌}
-use Rattle.std.specs.Bool.{xor}
 use Rattle.steps.specs.Rows.{Assignment, value}
 use Rattle.steps.specs.Sound.{sound}
 use Rattle.steps.specs.Table.{Slices, rows_of}
 use Rattle.steps.specs.Steps.{Steps, sum, product}
-use Rattle.table.specs.declared.Answer.{Answer}
+use Rattle.table.specs.Answers.{Answer}
 use Rattle.table.specs.Calls.{unless◌then◌else◌, checked, in_range, in_use, Left, refuse, take_steps, Does}
-use Rattle.pairs.specs.declared.Operation.{Operation}
-use Rattle.pairs.specs.declared.Operation.TheVariants.{Sum, Product}
-
--- the written steps of an operation, and what it makes of two values
-abbrev pub steps_of : Operation → ℕ → ℕ → ℕ → Steps
-steps_of Sum N f g = sum N f g
-steps_of Product N f g = product N f g
-
-abbrev pub op_of : Operation → Bool → Bool → Bool
-op_of Sum x y = xor x y
-op_of Product x y = x && y
 
 -- "3: a number isn't 0, 1 or a row in use"; then the written steps m
 abbrev pub pair_checked : Steps → ℕ → Slices → ℕ → ℕ → Left

@@ -1,134 +1,68 @@
 // The calls sum and product. They differ in the written steps that are taken, and in nothing else.
 #![tactic(auto)]
 
-ghost use Rattle.std.specs.Prelude.{◌≡◌, ◌&&◌, ◌≤◌, length, replicate};
+ghost use Rattle.std.specs.Prelude.{◌≡◌, ◌&&◌, length, replicate, OnErr};
 ghost use Rattle.std.specs.Bool.{xor};
-ghost use Rattle.steps.specs.Table.{slices};
-ghost use Rattle.table.specs.Inner.{Kept};
-ghost use Rattle.table.specs.Memory.{Live};
-ghost use Rattle.sums.specs.Inner.{Pair};
-ghost use Rattle.pairs.specs.Calls.{steps_of, op_of, pair_checked, pair_call, sum_call, product_call, Answered};
+ghost use Rattle.steps.specs.Steps.{Steps};
+ghost use Rattle.table.specs.Answers.{answer_of};
+ghost use Rattle.table.specs.Calls.{in_use, left};
+ghost use Rattle.table.specs.Tables.{LiveIn};
+ghost use Rattle.table.specs.Views.{slices_of, SameLoans};
+ghost use Rattle.checks.specs.Steps.{Kept, StepsTo};
+ghost use Rattle.pairs.specs.Calls.{pair_checked, pair_call, sum_call, product_call, Answered};
+ghost use Rattle.pairs.specs.Inner.{MayTake, Takes};
 
-use checks::check::{Table, check};
-use checks::finish::finish;
-use table::make::Made;
-use table::{Answer, Row};
-use zeros::zero_work;
+use checks::call::call;
+use table::{NoRoom, Refusal, Row, Table};
 
-// Which of the two calls is made.
-#[derive(Clone, Copy)]
-enum Operation {
-    Sum,
-    Product,
-}
-
-// The written steps of the operation.
-fn take_steps(
-    op: Operation,
-    vs: &mut [u16],
-    ts: &mut [u16],
-    es: &mut [u16],
-    work: &mut [u64],
-    n: u16,
-    count: usize,
-    f: Row,
-    g: Row,
-) -> Made
-    requires { Pair n count (slices vs.old ts.old es.old) work.old f.0 g.0 }
-    ensures { Kept n (steps_of op n f.0 g.0) result count (slices vs.old ts.old es.old)
-        (slices vs.new ts.new es.new) work.old work.new }
+// The call on f and g with these written steps.
+fn pair<F>(n: usize, t: &mut Table<'_>, f: Row, g: Row, written: F) -> Result<Row, Refusal>
+where
+    F: FnOnce(&mut Table<'_>, u16, Row, Row) -> Result<Row, NoRoom>,
+    requires may_take { MayTake n f g (F.pre written) }
+    requires takes { (m : Steps) × Takes n f g (F.post written) m }
+    ensures call { (m : Steps) → Takes n f g (F.post written) m
+        → pair_call n m t.old.count (slices_of t.old) f.0 g.0 ≡ left (answer_of result t.new.count) (slices_of t.new) }
+    ensures count { OnErr result (t.new.count ≡ t.old.count) }
+    ensures same { SameLoans t.old t.new }
+    ensures work_after { t.new.work.now ≡ replicate (length t.old.work.now) 0 }
 {
-    match op {
-        Operation::Sum => sums::written::sum(vs, ts, es, work, n, count, f, g),
-        Operation::Product => products::written::product(vs, ts, es, work, n, count, f, g),
-    }
-}
-
-fn pair_ready(
-    op: Operation,
-    n: usize,
-    vs: &mut [u16],
-    ts: &mut [u16],
-    es: &mut [u16],
-    count: usize,
-    work: &mut [u64],
-    f: Row,
-    g: Row,
-) -> Answer
-    requires { (Live n count (slices vs.old ts.old es.old) work.old) × (n ≤ 1024) }
-    ensures { Answered (op_of op)
-        (pair_checked (steps_of op n f.0 g.0) count (slices vs.old ts.old es.old) f.0 g.0) result count
-        (slices vs.old ts.old es.old) (slices vs.new ts.new es.new) f.0 g.0 }
-{
-    if count + 2 <= f.0 as usize {
-        return Answer::Refused(3);
-    }
-    if count + 2 <= g.0 as usize {
-        return Answer::Refused(3);
-    }
-    let made = take_steps(op, vs, ts, es, work, n as u16, count, f, g);
-    finish(vs, ts, es, count, made)
-}
-
-fn pair_checked(
-    op: Operation,
-    n: usize,
-    vs: &mut [u16],
-    ts: &mut [u16],
-    es: &mut [u16],
-    count: usize,
-    work: &mut [u64],
-    f: Row,
-    g: Row,
-) -> Answer
-    ensures { Answered (op_of op)
-        (pair_call n (steps_of op n f.0 g.0) count (slices vs.old ts.old es.old) f.0 g.0) result count
-        (slices vs.old ts.old es.old) (slices vs.new ts.new es.new) f.0 g.0 }
-{
-    let table = check(n, vs, ts, es, count, work);
-    match table {
-        Table::OutOfRange => Answer::Refused(1),
-        Table::Unsound => Answer::Refused(2),
-        Table::Fine => pair_ready(op, n, vs, ts, es, count, work, f, g),
-    }
+    let steps = move |t: &mut Table<'_>, n: u16| -> Result<Row, Refusal>
+        requires live { LiveIn n t.old }
+        requires may_take { MayTake n f g (F.pre written) }
+        requires takes { (m : Steps) × Takes n f g (F.post written) m }
+        ensures kept { Kept t.old t.new }
+        ensures steps { (m : Steps) → Takes n f g (F.post written) m
+            → StepsTo (pair_checked m t.old.count (slices_of t.old) f.0 g.0) result t.old t.new }
+    {
+        let rows = t.rows();
+        if !rows.has(f) || !rows.has(g) {
+            return Err(Refusal::NotInUse);
+        }
+        let made = written(t, n, f, g)?;
+        Ok(made)
+    };
+    call(n, t, steps)
 }
 
 // The sum f + g.
-pub fn sum(
-    n: usize,
-    vs: &mut [u16],
-    ts: &mut [u16],
-    es: &mut [u16],
-    count: usize,
-    work: &mut [u64],
-    f: Row,
-    g: Row,
-) -> Answer
-    ensures answered { Answered xor (sum_call n count (slices vs.old ts.old es.old) f.0 g.0) result count
-        (slices vs.old ts.old es.old) (slices vs.new ts.new es.new) f.0 g.0 }
-    ensures work_after { work.new ≡ replicate (length work.old) 0 }
+pub fn sum(n: usize, t: &mut Table<'_>, f: Row, g: Row) -> Result<Row, Refusal>
+    ensures answered { Answered xor (sum_call n t.old.count (slices_of t.old) f.0 g.0) (answer_of result t.new.count) t.old.count
+        (slices_of t.old) (slices_of t.new) f.0 g.0 }
+    ensures count { OnErr result (t.new.count ≡ t.old.count) }
+    ensures same { SameLoans t.old t.new }
+    ensures work_after { t.new.work.now ≡ replicate (length t.old.work.now) 0 }
 {
-    let r = pair_checked(Operation::Sum, n, vs, ts, es, count, work, f, g);
-    zero_work(work);
-    r
+    pair(n, t, f, g, sums::written::sum)
 }
 
 // The product f·g.
-pub fn product(
-    n: usize,
-    vs: &mut [u16],
-    ts: &mut [u16],
-    es: &mut [u16],
-    count: usize,
-    work: &mut [u64],
-    f: Row,
-    g: Row,
-) -> Answer
-    ensures answered { Answered ◌&&◌ (product_call n count (slices vs.old ts.old es.old) f.0 g.0) result count
-        (slices vs.old ts.old es.old) (slices vs.new ts.new es.new) f.0 g.0 }
-    ensures work_after { work.new ≡ replicate (length work.old) 0 }
+pub fn product(n: usize, t: &mut Table<'_>, f: Row, g: Row) -> Result<Row, Refusal>
+    ensures answered { Answered ◌&&◌ (product_call n t.old.count (slices_of t.old) f.0 g.0) (answer_of result t.new.count) t.old.count
+        (slices_of t.old) (slices_of t.new) f.0 g.0 }
+    ensures count { OnErr result (t.new.count ≡ t.old.count) }
+    ensures same { SameLoans t.old t.new }
+    ensures work_after { t.new.work.now ≡ replicate (length t.old.work.now) 0 }
 {
-    let r = pair_checked(Operation::Product, n, vs, ts, es, count, work, f, g);
-    zero_work(work);
-    r
+    pair(n, t, f, g, products::written::product)
 }

@@ -7,8 +7,8 @@ use native.Mathlib.Omega.{arith}
 use lib.Dec.{ltb}
 use borrow.Author.Tests.{ltb-true}
 use Rattle.aiger.specs.Answers.{number_of_refusal}
-use Rattle.aiger.specs.declared.net.Refusal.{Refusal}
-use Rattle.aiger.specs.declared.net.Refusal.TheVariants.{TooLong, Form, Limits, Literal, Order}
+use Rattle.aiger.specs.declared.refusal.Refusal.{Refusal}
+use Rattle.aiger.specs.declared.refusal.Refusal.TheVariants.{TooLong, Form, Limits, Literal, Order}
 use Rattle.printing.specs.Text.{decimal}
 
 -- the number whose digits are n's and those

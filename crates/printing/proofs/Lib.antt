@@ -1,5 +1,4 @@
-pub mod Puts
-pub mod Verdicts
+pub mod Digits
 pub mod Printed
 pub mod Decimals
 pub mod StandsFor

@@ -2,16 +2,11 @@
 use Prim.Native.Nat.{ℕ}
 use mathlib.Core.Path.{◌≡◌, refl, sym, ap, ◌∙◌}
 use mathlib.Core.List.{List}
-use lib.ListN.{take}
 use Rattle.steps.specs.Table.{Slices}
-use Rattle.table.specs.declared.make.Made.{Made}
 use Rattle.table.specs.Lent.{room}
-use Rattle.aiger.specs.Answers.{Slices as NetSlices, net_in, answer_of, text_call}
-use Rattle.aiger.specs.Net.{got, refused as unread, circuit}
-use Rattle.aiger.specs.declared.Answer.{Answer}
-use Rattle.aiger.specs.declared.Answer.TheVariants.{Counted, Refused}
-use Rattle.aiger.specs.declared.header.Sizes.{Sizes}
-use Rattle.aiger.specs.declared.net.Refusal.{Refusal}
+use Rattle.aiger.specs.Answers.{Answer, Counted, Refused, answer_of, text_call}
+use Rattle.aiger.specs.Net.{Net, got, refused as unread, circuit}
+use Rattle.aiger.specs.declared.refusal.Refusal.{Refusal}
 use Rattle.verdicts.specs.Calls.{Left, end_with, circuit_call}
 use Rattle.verdicts.specs.Verdicts.{Verdict, never, can, room_out, verdict_of}
 use Rattle.verdicts.proofs.Outcomes.{Passed, call_passes}
@@ -24,11 +19,10 @@ same_text (can R q) s t p o = refl
 same_text room_out s t p o = refl
 
 -- s₀ is any table of the size of s
-pub printed_verdict : {made : Made} {s s' : Slices} {h : Sizes} {x : NetSlices} {o k : ℕ} {p line : List ℕ} → Prints made s s' h x o p line k
-    → (text rest : List ℕ) → circuit text ≡ got (net_in h x) rest → (s₀ : Slices) → room s₀ ≡ room s → Passed (net_in h x) s₀ o p
-    → take k line ≡ printed (circuit_call text s₀ o p) o
-printed_verdict {s = s} {h = h} {x = x} {o = o} {p = p} prints text rest reads s₀ size passed =
-    let net = net_in h x in
+pub printed_verdict : {net : Net} {s : Slices} {o : ℕ} {p line : List ℕ} → Prints net s o p line
+    → (text rest : List ℕ) → circuit text ≡ got net rest → (s₀ : Slices) → room s₀ ≡ room s → Passed net s₀ o p
+    → line ≡ printed (circuit_call text s₀ o p) o
+printed_verdict {net} {s} {o} {p} prints text rest reads s₀ size passed =
     prints.text ∙ same_text (verdict_of net (room s) o) s s₀ p o
     ∙ ap (λ (n : ℕ). printed (end_with (verdict_of net n o) s₀ p) o) (sym size)
     ∙ ap (λ (call : Left). printed call o) (sym (call_passes text net rest reads s₀ o p passed))
@@ -38,6 +32,6 @@ number (Counted i o) = 0
 number (Refused n) = n
 
 -- of a refused text it is the number that the text call answers
-pub printed_refusal : {why : Refusal} {k : ℕ} {line : List ℕ} → PrintsRefusal why line k
-    → (text : List ℕ) → circuit text ≡ unread why → (n : ℕ) → text_call text ≡ Refused n → take k line ≡ refused n
+pub printed_refusal : {why : Refusal} {line : List ℕ} → PrintsRefusal why line
+    → (text : List ℕ) → circuit text ≡ unread why → (n : ℕ) → text_call text ≡ Refused n → line ≡ refused n
 printed_refusal prints text reads n answer = prints.text ∙ ap refused (ap number (sym (ap answer_of reads) ∙ answer))

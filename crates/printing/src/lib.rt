@@ -1,61 +1,46 @@
-// For the program: what it prints of an output or a refusal, laid down in a lent line. Nothing here is a call of the scope.
+// For the program: what it prints of an output or a refusal, as a line of text. Nothing here is a call of the scope.
 #![tactic(auto)]
 
 mod line;
 
-ghost use Rattle.std.specs.Prelude.{◌≤◌, length};
-ghost use Rattle.steps.specs.Table.{slices};
-ghost use Rattle.aiger.specs.Answers as net;
-ghost use Rattle.printing.specs.Inner.{Asked, Prints, PrintsRefusal};
+ghost use Rattle.std.specs.Prelude.{◌≡◌, List, ℕ, length};
+ghost use Rattle.steps.specs.Table.{Slices};
+ghost use Rattle.table.specs.Lent.{room};
+ghost use Rattle.table.specs.Views.{slices_of, SameLoans};
+ghost use Rattle.aiger.specs.Net as net;
+ghost use Rattle.aiger.specs.Circuit.{circuit_of};
+ghost use Rattle.verdicts.specs.Verdicts.{verdict_of, room_out};
+ghost use Rattle.outputs.specs.Inner.{Built, OutputOf};
+ghost use Rattle.printing.specs.Inner.{Prints, PrintsRefusal};
 
-use crate::line::{block, refused};
-use aiger::header::Sizes;
-use aiger::net::Refusal;
-use endings::Judged;
-use nets::for_circuit::number_of;
+pub use crate::line::Line;
+use crate::line::{block, refused, verdict_alone};
+use aiger::net::Net;
+use aiger::refusal::Refusal;
 use outputs::judge;
-use table::make::Made;
+use table::{Row, Table};
 
-// The block of output o, from the system or from the want of room for it; tells how many bytes.
-pub fn print(
-    h: Sizes,
-    ins: &[u16],
-    outs: &[u16],
-    lefts: &[u16],
-    rights0: &[u16],
-    rights1: &[u16],
-    vs: &mut [u16],
-    ts: &mut [u16],
-    es: &mut [u16],
-    work: &mut [u64],
-    made: Made,
-    o: usize,
-    pattern: &mut [u8],
-    line: &mut [u8],
-) -> usize
-    requires { Asked made (slices vs.old ts.old es.old) h (net.slices ins.now outs.now lefts.now rights0.now rights1.now) o
-        (length pattern.old) (length line.old) }
-    ensures { Prints made
-        (slices vs.old ts.old es.old)
-        (slices vs.new ts.new es.new)
-        h (net.slices ins.now outs.now lefts.now rights0.now rights1.now)
-        o pattern.old line.new result }
+// The block of output o, from the system.
+pub fn print(net: &Net, t: &mut Table<'_>, system: Row, o: usize, pattern: &mut [u8]) -> Line
+    requires { OutputOf (slices_of t.old) net.now t.old.count system.0 o (length pattern.old) }
+    ensures prints { Prints (circuit_of net.now) (slices_of t.old) o pattern.old result.bytes }
+    ensures stands { Built (slices_of t.new) net.now t.new.count system.0 }
+    ensures same { SameLoans t.old t.new }
 {
-    match made {
-        Made::At(system, count) => {
-            let r = judge(
-                h, ins, outs, lefts, rights0, rights1, vs, ts, es, work, count, system, o, pattern,
-            );
-            block(r, o, pattern, line)
-        }
-        Made::Full => block(Judged::RoomOut, o, pattern, line),
-    }
+    let verdict = judge(net, t, system, o, pattern);
+    block(verdict, o, pattern)
 }
 
-// The line of a refused text; tells how many bytes.
-pub fn print_refusal(why: Refusal, line: &mut [u8]) -> usize
-    requires { 16 ≤ length line.old }
-    ensures { PrintsRefusal why line.new result }
+// The block of output o where there is no room for the system.
+pub fn print_no_room(o: usize) -> Line
+    ensures { (circuit : net.Net) (s : Slices) (p : List ℕ) → verdict_of circuit (room s) o ≡ room_out → Prints circuit s o p result.bytes }
 {
-    refused(number_of(why), line)
+    verdict_alone(2, o)
+}
+
+// The line of a refused text.
+pub fn print_refusal(why: Refusal) -> Line
+    ensures { PrintsRefusal why result.bytes }
+{
+    refused(u16::from(why))
 }

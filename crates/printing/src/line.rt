@@ -1,131 +1,97 @@
-// Bytes put into a line, one behind the other. Each function tells where they end.
+// The text of an output and of a refusal, piece by piece.
 ghost use Rattle.std.specs.Prelude.{◌+◌, ◌<◌, ◌≤◌, ◌≡◌, [], ◌∷◌, ◌++◌, map, length};
 ghost use Rattle.verdicts.specs.Calls.{verdict_1};
-ghost use Rattle.endings.specs.Answers.{answer_of_judged};
+ghost use Rattle.endings.specs.Answers.{judged, answer_of_judged};
 ghost use Rattle.printing.specs.Text as text;
-ghost use Rattle.printing.specs.Inner.{Put};
+ghost use Rattle.arrayvec.specs.ArrayString.{array_string_len};
 
-use endings::Judged;
+use arrayvec::ArrayString;
+use endings::Verdict;
 
-fn put(line: &mut [u8], at: usize, b: u8) -> usize
-    requires { at < length line.old }
-    ensures { Put line.old line.new at (b ∷ []) result }
+// Text in fixed memory, with room for a pattern of 1,024 digits and 16 bytes about it. It is pushed, and not printed by an `impl Display`: by its clauses a `write!` may
+// fail, and what is printed here never does.
+pub type Line = ArrayString<1040>;
+
+// A number of at most k digits and one. The library's printing of a number is another text from 10,000 on, which `print_no_room` takes too.
+#[tactic(auto, using(crate::proofs::Digits::decimals))]
+fn push_decimal(line: &mut Line, k: usize, n: usize)
+    requires { array_string_len line.old + k < 1040 }
+    ensures { line.new.bytes ≡ line.old.bytes ++ text.decimal k n }
 {
-    line[at] = b;
-    at + 1
-}
-
-// A number of at most k digits and one.
-fn put_decimal(line: &mut [u8], at: usize, k: usize, n: usize) -> usize
-    requires { at + k < length line.old }
-    ensures { Put line.old line.new at (text.decimal k n) result }
-{
-    let last = b'0' + (n % 10) as u8;
-    if k == 0 {
-        return put(line, at, last);
+    if k > 0 && n >= 10 {
+        push_decimal(line, k - 1, n / 10);
     }
-    if n < 10 {
-        return put(line, at, last);
+    line.push(char::from(b'0' + (n % 10) as u8));
+}
+
+fn heading(verdict: u8, o: usize) -> Line
+    requires { verdict < 3 }
+    ensures { result.bytes ≡ text.heading verdict o }
+{
+    let mut line = Line::new();
+    line.push(char::from(b'0' + verdict));
+    line.push_str("\nb");
+    push_decimal(&mut line, 3, o);
+    line.push_str("\n");
+    line
+}
+
+fn digit(value: u8) -> &'static str
+    ensures { result.now ≡ text.digit value ∷ [] }
+{
+    if value == 0 { "0" } else { "1" }
+}
+
+fn push_digits(line: &mut Line, pattern: &[u8])
+    requires { array_string_len line.old + length pattern.now ≤ 1040 }
+    ensures { line.new.bytes ≡ line.old.bytes ++ map text.digit pattern.now }
+{
+    for value in pattern {
+        line.push_str(digit(*value));
     }
-    let end = put_decimal(line, at, k - 1, n / 10);
-    put(line, end, last)
-}
-
-// Bytes that are given.
-fn put_all(line: &mut [u8], at: usize, bytes: &[u8]) -> usize
-    requires { at + length bytes.now ≤ length line.old }
-    ensures { Put line.old line.new at bytes.now result }
-{
-    let mut end = at;
-    let mut i = 0;
-    while i < bytes.len() {
-        end = put(line, end, bytes[i]);
-        i += 1;
-    }
-    end
-}
-
-fn put_heading(line: &mut [u8], verdict: u8, o: usize) -> usize
-    requires { (verdict < 3) × (16 ≤ length line.old) }
-    ensures { Put line.old line.new 0 (text.heading verdict o) result }
-{
-    let a = put(line, 0, b'0' + verdict);
-    let b = put(line, a, b'\n');
-    let c = put(line, b, b'b');
-    let d = put_decimal(line, c, 3, o);
-    put(line, d, b'\n')
-}
-
-fn put_dot(line: &mut [u8], at: usize) -> usize
-    requires { at + 1 < length line.old }
-    ensures { Put line.old line.new at text.dot result }
-{
-    let end = put(line, at, b'.');
-    put(line, end, b'\n')
-}
-
-fn digit(value: u8) -> u8
-    ensures { text.digit value ≡ result }
-{
-    if value == 0 {
-        return b'0';
-    }
-    b'1'
-}
-
-fn put_digits(line: &mut [u8], at: usize, pattern: &[u8]) -> usize
-    requires { at + length pattern.now ≤ length line.old }
-    ensures { Put line.old line.new at (map text.digit pattern.now) result }
-{
-    let mut end = at;
-    let mut i = 0;
-    while i < pattern.len() {
-        end = put(line, end, digit(pattern[i]));
-        i += 1;
-    }
-    end
 }
 
 // The verdict alone.
-fn put_verdict(line: &mut [u8], verdict: u8, o: usize) -> usize
-    requires { (verdict < 3) × (16 ≤ length line.old) }
-    ensures { Put line.old line.new 0 (text.heading verdict o ++ text.dot) result }
+pub fn verdict_alone(verdict: u8, o: usize) -> Line
+    requires { verdict < 3 }
+    ensures { result.bytes ≡ text.heading verdict o ++ text.dot }
 {
-    let end = put_heading(line, verdict, o);
-    put_dot(line, end)
+    let mut line = heading(verdict, o);
+    line.push_str(".\n");
+    line
 }
 
 // Verdict 1: an empty line, since there are no latches, and the input values in file order.
-fn put_one(line: &mut [u8], o: usize, pattern: &[u8]) -> usize
-    requires { length pattern.now + 16 ≤ length line.old }
-    ensures { Put line.old line.new 0 (text.block (verdict_1 0) o pattern.now) result }
+fn verdict_one(o: usize, pattern: &[u8]) -> Line
+    requires { length pattern.now ≤ 1024 }
+    ensures { result.bytes ≡ text.block (verdict_1 0) o pattern.now }
 {
-    let a = put_heading(line, 1, o);
-    let b = put(line, a, b'\n');
-    let c = put_digits(line, b, pattern);
-    let d = put(line, c, b'\n');
-    put_dot(line, d)
+    let mut line = heading(1, o);
+    line.push_str("\n");
+    push_digits(&mut line, pattern);
+    line.push_str("\n.\n");
+    line
 }
 
 // The block of output o.
-pub fn block(r: Judged, o: usize, pattern: &[u8], line: &mut [u8]) -> usize
-    requires { length pattern.now + 16 ≤ length line.old }
-    ensures { Put line.old line.new 0 (text.block (answer_of_judged r) o pattern.now) result }
+pub fn block(verdict: Verdict, o: usize, pattern: &[u8]) -> Line
+    requires { length pattern.now ≤ 1024 }
+    ensures { result.bytes ≡ text.block (answer_of_judged (judged verdict)) o pattern.now }
 {
-    match r {
-        Judged::Never(_) => put_verdict(line, 0, o),
-        Judged::Can(_) => put_one(line, o, pattern),
-        Judged::RoomOut => put_verdict(line, 2, o),
-        Judged::Refused(_) => 0,
+    match verdict {
+        Verdict::Never(_) => verdict_alone(0, o),
+        Verdict::Can(_) => verdict_one(o, pattern),
+        Verdict::RoomOut => verdict_alone(2, o),
     }
 }
 
 // The number of a refusal.
-pub fn refused(number: u16, line: &mut [u8]) -> usize
-    requires { 16 ≤ length line.old }
-    ensures { Put line.old line.new 0 (text.refused number) result }
+pub fn refused(number: u16) -> Line
+    ensures { result.bytes ≡ text.refused number }
 {
-    let a = put_all(line, 0, b"refused ");
-    let b = put_decimal(line, a, 1, number as usize);
-    put(line, b, b'\n')
+    let mut line = Line::new();
+    line.push_str("refused ");
+    push_decimal(&mut line, 1, number as usize);
+    line.push_str("\n");
+    line
 }

@@ -11,9 +11,8 @@ use Rattle.steps.specs.Table.{Slices, rows_of}
 use Rattle.steps.proofs.Table.{rows_of_next}
 use Rattle.steps.proofs.Theorems.{Right, product_right}
 use Rattle.table.specs.declared.Row.{Row}
-use Rattle.table.specs.declared.make.Made.TheVariants.{At}
-use Rattle.table.specs.declared.memory.Recalled.{Recalled}
-use Rattle.table.specs.declared.memory.Recalled.TheVariants.{At as Recalled-at}
+use Rattle.table.specs.Made.{At}
+use Rattle.std.specs.Prelude.{Option, Some}
 use Rattle.table.specs.Lent.{room}
 use Rattle.table.specs.Memory.{key_of, Place, Recalls}
 use Rattle.table.specs.Inner.{Kept}
@@ -32,7 +31,7 @@ module _ (N c : ℕ) (s : Slices) (work : List ℕ) (f g : ℕ) (d : Pair N c s 
   right = product_right N R d.live.sound f g (omega (arith, rows_of_next s c, d.left)) (omega (arith, rows_of_next s c, d.right)) 0 (omega arith) (omega arith)
 
   module _ (i : ℕ) (place : Place (room s) (length work) i) where
-    pub recalled : {r : Recalled} {k : Row} → r ≡ Recalled-at k → Recalls r work i key → product N f g (rows_of s c) ≡ answer k.0 (rows_of s c)
+    pub recalled : {r : Option Row} {k : Row} → r ≡ Some k → Recalls r work i key → product N f g (rows_of s c) ≡ answer k.0 (rows_of s c)
     recalled = steps_recalled N c s work d.live 2 f g (omega arith) d.left d.right key z (omega arith) (product N f g) (steps_product N f g) i place
 
     pub kept_remembered : (k : Row) (n : ℕ) (s' : Slices) (work' : List ℕ) → Kept N (product N f g) (At k n) c s s' work work'

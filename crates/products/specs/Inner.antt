@@ -4,7 +4,9 @@ use Rattle.std.specs.Prelude.{ℕ, ◌+◌, ◌-◌, ◌<◌, min, ◌≡◌, Li
 use Rattle.steps.specs.Rows.{Rows, root}
 use Rattle.steps.specs.Steps.{Steps, ◌>>=◌, sum, product}
 use Rattle.steps.specs.Table.{Slices}
+use Rattle.table.specs.declared.Table.{Table}
 use Rattle.table.specs.Memory.{Live}
+use Rattle.table.specs.Views.{slices_of}
 
 -- neither is a constant, and they are not equal
 pub record Proper (f g : ℕ) : Type 0 where
@@ -30,6 +32,16 @@ pub record Quad (N c : ℕ) (s : Slices) (work : List ℕ) (ft fe gt ge : ℕ) :
 
 abbrev pub Rest : ℕ → ℕ → Slices → List ℕ → ℕ → ℕ → ℕ → ℕ → Type 0
 Rest N c s work a ft gt ge = Quad N c s work ft a gt ge
+
+-- the same of a table
+abbrev pub ThreeIn : ℕ → Table → ℕ → ℕ → ℕ → Type 0
+ThreeIn N t = Three N t.count (slices_of t) t.work.now
+
+abbrev pub QuadIn : ℕ → Table → ℕ → ℕ → ℕ → ℕ → Type 0
+QuadIn N t = Quad N t.count (slices_of t) t.work.now
+
+abbrev pub RestIn : ℕ → Table → ℕ → ℕ → ℕ → ℕ → Type 0
+RestIn N t = Rest N t.count (slices_of t) t.work.now
 
 -- "sum of the first two, that plus the third"
 abbrev pub three_steps : ℕ → ℕ → ℕ → ℕ → Steps

@@ -1,166 +1,95 @@
 // For the crates above: the written steps of the product, with its results remembered.
+ghost use Rattle.std.specs.Prelude.{◌≡◌};
 ghost use Rattle.steps.specs.Steps.{product};
-ghost use Rattle.steps.specs.Table.{slices};
-ghost use Rattle.table.specs.Inner.{Kept};
-ghost use Rattle.sums.specs.Inner.{Pair};
-ghost use Rattle.products.specs.Inner.{Proper, Three, Rest, Quad, three_steps, rest_steps, then_steps};
+ghost use Rattle.table.specs.Tables.{KeptIn};
+ghost use Rattle.sums.specs.Inner.{PairIn};
+ghost use Rattle.products.specs.Inner.{Proper, ThreeIn, RestIn, QuadIn, three_steps, rest_steps, then_steps};
 
-use sums::parts::split;
-use table::Row;
-use table::make::{Made, make};
-use table::memory::{PRODUCT, Recalled, key, place, recall, remember};
+use sums::parts::{Parts, split};
+use sums::written::sum;
+use table::memory::{Operation, key, remember};
 use table::rows::Node;
+use table::{NoRoom, Row, Table};
 
 // The sum of the first two, and that plus the third.
-fn sum_three(
-    vs: &mut [u16],
-    ts: &mut [u16],
-    es: &mut [u16],
-    work: &mut [u64],
-    n: u16,
-    count: usize,
-    a: Row,
-    b: Row,
-    c: Row,
-) -> Made
-    requires { Three n count (slices vs.old ts.old es.old) work.old a.0 b.0 c.0 }
-    ensures { Kept n (three_steps n a.0 b.0 c.0) result count (slices vs.old ts.old es.old)
-        (slices vs.new ts.new es.new) work.old work.new }
+fn sum_three(t: &mut Table<'_>, n: u16, a: Row, b: Row, c: Row) -> Result<Row, NoRoom>
+    requires { ThreeIn n t.old a.0 b.0 c.0 }
+    ensures { KeptIn n (three_steps n a.0 b.0 c.0) result t.old t.new }
 {
-    let Made::At(d, n1) = sums::written::sum(vs, ts, es, work, n, count, a, b) else {
-        return Made::Full;
-    };
-    sums::written::sum(vs, ts, es, work, n, n1, d, c)
+    let d = sum(t, n, a, b)?;
+    sum(t, n, d, c)
 }
 
 // The product f·g.
 #[cycle(product_product_deep_then_part_then_rest)]
-pub fn product(
-    vs: &mut [u16],
-    ts: &mut [u16],
-    es: &mut [u16],
-    work: &mut [u64],
-    n: u16,
-    count: usize,
-    f: Row,
-    g: Row,
-) -> Made
-    requires { Pair n count (slices vs.old ts.old es.old) work.old f.0 g.0 }
-    ensures { Kept n (product n f.0 g.0) result count (slices vs.old ts.old es.old)
-        (slices vs.new ts.new es.new) work.old work.new }
+pub fn product(t: &mut Table<'_>, n: u16, f: Row, g: Row) -> Result<Row, NoRoom>
+    requires { PairIn n t.old f.0 g.0 }
+    ensures { KeptIn n (product n f.0 g.0) result t.old t.new }
 {
     if f.0 == 1 {
-        return Made::At(g, count);
+        return Ok(g);
     }
     if f.0 == 0 {
-        return Made::At(Row(0), count);
+        return Ok(Row(0));
     }
     if g.0 == 0 {
-        return Made::At(Row(0), count);
+        return Ok(Row(0));
     }
     if g.0 == 1 {
-        return Made::At(f, count);
+        return Ok(f);
     }
-    if f.0 == g.0 {
-        return Made::At(f, count);
+    if f == g {
+        return Ok(f);
     }
-    let key = key(PRODUCT, f, g);
-    let i = place(vs.len(), work.len(), key);
-    if let Recalled::At(k) = recall(work, i, key) {
-        return Made::At(k, count);
+    let slot = t.slot(key(Operation::Product, f, g));
+    if let Some(k) = t.recall(slot) {
+        return Ok(k);
     }
-    let Made::At(k, c) = product_deep(vs, ts, es, work, n, count, f, g) else {
-        return Made::Full;
-    };
-    remember(work, i, key, k);
-    Made::At(k, c)
+    let k = product_deep(t, n, f, g)?;
+    remember(t.work, slot, k);
+    Ok(k)
 }
 
 // The same where no constant is among the numbers and they are not equal: then-part, else-part, make.
 #[cycle(product_product_deep_then_part_then_rest)]
-fn product_deep(
-    vs: &mut [u16],
-    ts: &mut [u16],
-    es: &mut [u16],
-    work: &mut [u64],
-    n: u16,
-    count: usize,
-    f: Row,
-    g: Row,
-) -> Made
-    requires pair { Pair n count (slices vs.old ts.old es.old) work.old f.0 g.0 }
+fn product_deep(t: &mut Table<'_>, n: u16, f: Row, g: Row) -> Result<Row, NoRoom>
+    requires pair { PairIn n t.old f.0 g.0 }
     requires proper { Proper f.0 g.0 }
-    ensures { Kept n (product n f.0 g.0) result count (slices vs.old ts.old es.old)
-        (slices vs.new ts.new es.new) work.old work.new }
+    ensures { KeptIn n (product n f.0 g.0) result t.old t.new }
 {
-    let p = split(vs, ts, es, n, count, f, g);
-    let v = p.v;
-    let ft = p.ft;
-    let gt = p.gt;
-    let fe = p.fe;
-    let ge = p.ge;
-    let Made::At(t, c1) = then_part(vs, ts, es, work, n, count, ft, fe, gt, ge) else {
-        return Made::Full;
-    };
-    let Made::At(e, c2) = product(vs, ts, es, work, n, c1, fe, ge) else {
-        return Made::Full;
-    };
-    make(vs, ts, es, work, c2, Node { v, t, e })
+    let p = split(&t.rows(), n, f, g);
+    let then_row = then_part(t, n, p)?;
+    let else_row = product(t, n, p.fe, p.ge)?;
+    t.make(Node {
+        v: p.v,
+        t: then_row,
+        e: else_row,
+    })
 }
 
 // The then-part: else(f)·then(g), then(f)·then(g), then(f)·else(g), and their sums. Where one then-part is 0, so are two of the products.
 #[cycle(product_product_deep_then_part_then_rest)]
-fn then_part(
-    vs: &mut [u16],
-    ts: &mut [u16],
-    es: &mut [u16],
-    work: &mut [u64],
-    n: u16,
-    count: usize,
-    ft: Row,
-    fe: Row,
-    gt: Row,
-    ge: Row,
-) -> Made
-    requires { Quad n count (slices vs.old ts.old es.old) work.old ft.0 fe.0 gt.0 ge.0 }
-    ensures { Kept n (then_steps n ft.0 fe.0 gt.0 ge.0) result count (slices vs.old ts.old es.old)
-        (slices vs.new ts.new es.new) work.old work.new }
+fn then_part(t: &mut Table<'_>, n: u16, p: Parts) -> Result<Row, NoRoom>
+    requires { QuadIn n t.old p.ft.0 p.fe.0 p.gt.0 p.ge.0 }
+    ensures { KeptIn n (then_steps n p.ft.0 p.fe.0 p.gt.0 p.ge.0) result t.old t.new }
 {
-    if gt.0 == 0 {
-        return product(vs, ts, es, work, n, count, ft, ge);
+    if p.gt.0 == 0 {
+        return product(t, n, p.ft, p.ge);
     }
-    if ft.0 == 0 {
-        return product(vs, ts, es, work, n, count, fe, gt);
+    if p.ft.0 == 0 {
+        return product(t, n, p.fe, p.gt);
     }
-    let Made::At(a, c1) = product(vs, ts, es, work, n, count, fe, gt) else {
-        return Made::Full;
-    };
-    then_rest(vs, ts, es, work, n, c1, a, ft, gt, ge)
+    let a = product(t, n, p.fe, p.gt)?;
+    then_rest(t, n, a, p)
 }
 
 // The rest of the then-part, after its first product.
 #[cycle(product_product_deep_then_part_then_rest)]
-fn then_rest(
-    vs: &mut [u16],
-    ts: &mut [u16],
-    es: &mut [u16],
-    work: &mut [u64],
-    n: u16,
-    count: usize,
-    a: Row,
-    ft: Row,
-    gt: Row,
-    ge: Row,
-) -> Made
-    requires { Rest n count (slices vs.old ts.old es.old) work.old a.0 ft.0 gt.0 ge.0 }
-    ensures { Kept n (rest_steps n a.0 ft.0 gt.0 ge.0) result count (slices vs.old ts.old es.old)
-        (slices vs.new ts.new es.new) work.old work.new }
+fn then_rest(t: &mut Table<'_>, n: u16, a: Row, p: Parts) -> Result<Row, NoRoom>
+    requires { RestIn n t.old a.0 p.ft.0 p.gt.0 p.ge.0 }
+    ensures { KeptIn n (rest_steps n a.0 p.ft.0 p.gt.0 p.ge.0) result t.old t.new }
 {
-    let Made::At(b, c1) = product(vs, ts, es, work, n, count, ft, gt) else {
-        return Made::Full;
-    };
-    let Made::At(c, c2) = product(vs, ts, es, work, n, c1, ft, ge) else {
-        return Made::Full;
-    };
-    sum_three(vs, ts, es, work, n, c2, a, b, c)
+    let b = product(t, n, p.ft, p.gt)?;
+    let c = product(t, n, p.ft, p.ge)?;
+    sum_three(t, n, a, b, c)
 }

@@ -17,12 +17,9 @@ use Rattle.steps.proofs.Solve.{solve}
 use Rattle.steps.proofs.Table.{rows_of_next}
 use Rattle.steps.proofs.Theorems.{Right, normal_right, make_right}
 use Rattle.table.specs.declared.Row.{Row}
-use Rattle.table.specs.declared.make.Made.{Made}
-use Rattle.table.specs.declared.make.Made.TheVariants.{At as Made-at, Full}
-use Rattle.table.specs.declared.memory.Recalled.{Recalled}
-use Rattle.table.specs.declared.memory.Recalled.TheVariants.{At as Recalled-at}
-use Rattle.table.specs.Lent.{room, Numbered}
-use Rattle.table.specs.Index.{Indexed}
+use Rattle.std.specs.Prelude.{Option, Some}
+use Rattle.table.specs.Made.{Made, At as Made-at, Full}
+use Rattle.table.specs.Lent.{room}
 use Rattle.table.specs.Memory.{steps_of, key_of, Place, Recalls}
 use Rattle.table.specs.Inner.{Entered, Kept}
 use Rattle.table.proofs.Takes.{taken_rows}
@@ -32,8 +29,8 @@ use Rattle.sums.proofs.Keeping.{kept_by, kept_full, kept_then, kept_made, Step, 
 use Rattle.sums.proofs.Recalling.{key_fits, steps_recalled, steps_remembered}
 use Rattle.products.specs.Inner.{Three}
 use Rattle.products.proofs.Deep.{multiplied}
-use Rattle.leads.specs.Inner.{Skips, Filled, Reducing}
-use Rattle.reduction.specs.Inner.{Asked, Took, Reduces, Proper, Below, Meet, Rest, below_steps, join_steps, rest_steps, meet_steps}
+use Rattle.leads.specs.Inner.{Skips, Reducing}
+use Rattle.reduction.specs.Inner.{Reduces, Proper, Below, Meet, Rest, below_steps, join_steps, rest_steps, meet_steps}
 use Rattle.leads.proofs.Skipping.{skips_left, skips_normal, normal_empty}
 use Rattle.leads.proofs.Tabling.{left_reduces, others_reduce, reducing_keeps}
 
@@ -72,9 +69,6 @@ module _ (N c : ℕ) (s : Slices) (work : List ℕ) (p f : ℕ) (d : Reducing N 
 module _ (N c : ℕ) (s : Slices) (work : List ℕ) (p f : ℕ) (d : Reduces N c s work p f) where
   pub form_const : p < 2 → normal N p f (rows_of s c) ≡ answer p (rows_of s c)
   form_const h = normals_const N N p f (rows_of s c) h
-
-  pub form_asks : Numbered c s p
-  form_asks = record { lent = d.by.live.indexed.lent; used = d.used }
 
   module _ (p2 : 2 ≤ p) (v t e : ℕ) (q : row N (rows_of s c) p ≡ row_of v t e) where
     inner : Node N (rows_of s c) p
@@ -117,7 +111,7 @@ module _ (N c : ℕ) (s : Slices) (work : List ℕ) (p f : ℕ) (d : Reduces N c
         is_normal a b = steps_normal N 3 a b (omega arith) (omega arith)
 
         module _ (i : ℕ) (place : Place (room s) (length work) i) where
-          pub form_recalled : {r : Recalled} {n : Row} → r ≡ Recalled-at n → Recalls r work i key → normal N p f (rows_of s c) ≡ answer n.0 (rows_of s c)
+          pub form_recalled : {r : Option Row} {n : Row} → r ≡ Some n → Recalls r work i key → normal N p f (rows_of s c) ≡ answer n.0 (rows_of s c)
           form_recalled e h = same ∙ steps_recalled N c s work d.by.live 3 p g (omega arith) d.used by.system.used key z (omega arith) (normal N p g) (is_normal p g) i place e h
 
           pub form_remembered : (n : Row) (c' : ℕ) (s' : Slices) (work' : List ℕ) → Kept N (normal N p g) (Made-at n c') c s s' work work'
@@ -128,12 +122,6 @@ module _ (N c : ℕ) (s : Slices) (work : List ℕ) (p f : ℕ) (d : Reduces N c
 
 -- where the first lead is at p's root or behind it
 module _ (N c : ℕ) (s : Slices) (work : List ℕ) (p f : ℕ) (d : Reduces N c s work p f) (a : Proper N (rows_of s c) p f) where
-  pub deep_asks : Numbered c s p
-  deep_asks = record { lent = d.by.live.indexed.lent; used = d.used }
-
-  pub deep_asks_2 : Numbered c s f
-  deep_asks_2 = record { lent = d.by.live.indexed.lent; used = d.by.system.used }
-
   system_2 : 2 ≤ f
   system_2 = omega (arith, a.some, d.by.system.not_0)
 
@@ -198,9 +186,6 @@ module _ (N c : ℕ) (s : Slices) (work : List ℕ) (v t e f : ℕ) (d : Below N
   keeps_below : (k : ℕ) → Keeps (normal N e f >>= make v k)
   keeps_below k = keeps_bind (normal N e f) (make v k) (keeps_normal N e f) (keeps_make v k)
 
-  pub then_asks : (m : ℕ) → 4 * (N - v) + 1 ≡ m → (4 * depth N (rows_of s c) t f + 3 < m) × Reduces N c s work t f
-  then_asks m z = (parts_fall N v _ _ m d.var_below d.then_above d.system_above (omega arith), record { by = d.by; used = d.then_used })
-
   pub then_full : {s₁ : Slices} {work₁ : List ℕ} → Kept N (normal N t f) Full c s s₁ work work₁ → Kept N (below_steps N v t e f) Full c s s₁ work work₁
   then_full k = kept_full (λ x. normal N e f >>= make v x) keeps_below k
 
@@ -237,9 +222,6 @@ module _ (N c : ℕ) (s : Slices) (work : List ℕ) (v t e f : ℕ) (d : Below N
       fits =
           make_right N (rows_of s₂ n₂) l.live.sound v x.0 y.0 d.var_below (in_rows s₂ n₂ x.0 (done₂.still x.0 done.used)) (in_rows s₂ n₂ y.0 done₂.used) x_above y_above
 
-      pub make_asks : Indexed n₂ s₂ work₂
-      make_asks = l.live.indexed
-
       pub below_made : {r : Made} {s₃ : Slices} {work₃ : List ℕ} → Entered (make v x.0 y.0) r n₂ s₂ s₃ work₂ work₃ → Kept N (below_steps N v t e f) r c s s₃ work work₃
       below_made m = kept_then (λ x. normal N e f >>= make v x) keeps_below k (kept_then (make v x.0) (keeps_make v x.0) l (kept_made l.live m fits.appends fits.sound))
 
@@ -247,9 +229,6 @@ module _ (N c : ℕ) (s : Slices) (work : List ℕ) (v t e f : ℕ) (d : Below N
 module _ (N c : ℕ) (s : Slices) (work : List ℕ) (x y z : ℕ) (d : Three N c s work x y z) where
   keeps_plus : (k : ℕ) → Keeps (sum N k z)
   keeps_plus k = keeps_sums N (suc N) k z
-
-  pub join_asks : Pair N c s work x y
-  join_asks = record { live = d.live; left = d.first; right = d.second }
 
   pub join_full : {s₁ : Slices} {work₁ : List ℕ} → Kept N (product N x y) Full c s s₁ work work₁ → Kept N (join_steps N x y z) Full c s s₁ work work₁
   join_full k = kept_full (λ k. sum N k z) keeps_plus k
@@ -266,9 +245,6 @@ keeps_join N a b k = keeps_bind (product N a b) (λ d. sum N d k) (keeps_product
 
 -- after a and b
 module _ (N c : ℕ) (s : Slices) (work : List ℕ) (a b v e f : ℕ) (d : Rest N c s work a b v e f) where
-  pub rest_asks : (m : ℕ) → 4 * (N - v) ≡ m → (4 * depth N (rows_of s c) e f + 3 < m) × Reduces N c s work e f
-  rest_asks m z = (parts_fall N v _ _ m d.var_below d.else_above d.system_above (omega arith), record { by = d.by; used = d.else_used })
-
   pub rest_full : {s₁ : Slices} {work₁ : List ℕ} → Kept N (normal N e f) Full c s s₁ work work₁ → Kept N (rest_steps N a b e f) Full c s s₁ work work₁
   rest_full k = kept_full (join_steps N a b) (keeps_join N a b) k
 
@@ -288,9 +264,6 @@ keeps_rest N a b e f = keeps_bind (normal N e f) (join_steps N a b) (keeps_norma
 module _ (N c : ℕ) (s : Slices) (work : List ℕ) (v t e f u : ℕ) (d : Meet N c s work v t e f u) where
   keeps_b : (a : ℕ) → Keeps (normal N t f >>= λ b. rest_steps N a b e f)
   keeps_b a = keeps_bind (normal N t f) (λ b. rest_steps N a b e f) (keeps_normal N t f) (λ b. keeps_rest N a b e f)
-
-  pub a_asks : (m : ℕ) → 4 * (N - v) + 1 ≡ m → (4 * depth N (rows_of s c) u f + 3 < m) × Reduces N c s work u f
-  a_asks m z = (parts_fall N v _ _ m d.parts.var_below d.tail_above d.parts.system_above (omega arith), record { by = d.parts.by; used = d.tail_used })
 
   pub a_full : {s₁ : Slices} {work₁ : List ℕ} → Kept N (normal N u f) Full c s s₁ work work₁ → Kept N (meet_steps N t e f u) Full c s s₁ work work₁
   a_full k = kept_full (λ a. normal N t f >>= λ b. rest_steps N a b e f) keeps_b k
@@ -337,11 +310,3 @@ module _ (N c : ℕ) (s : Slices) (work : List ℕ) (v t e f u : ℕ) (d : Meet 
 
       pub meet_made : {r : Made} {s₃ : Slices} {work₃ : List ℕ} → Kept N (rest_steps N x.0 y.0 e f) r n₂ s₂ s₃ work₂ work₃ → Kept N (meet_steps N t e f u) r c s s₃ work work₃
       meet_made m = kept_then (λ a. normal N t f >>= λ b. rest_steps N a b e f) keeps_b k (kept_then (λ b. rest_steps N x.0 b e f) (λ b. keeps_rest N x.0 b e f) l m)
-
--- the whole normal form: the table of the system, then the steps
-module _ (N c : ℕ) (s : Slices) (work : List ℕ) (p f : ℕ) (d : Asked N c s work p f) (work' : List ℕ) (e : Filled N c s work work' f) where
-  pub reduce_asks : Reduces N c s work' p f
-  reduce_asks = record { by = record { live = e.live; system = d.system; table = e.table }; used = d.used }
-
-  pub reduce_done : {r : Made} {s' : Slices} {work'' : List ℕ} → Kept N (normal N p f) r c s s' work' work'' → Took N (normal N p f) r c s s' work work''
-  reduce_done k = record { taken = k.taken; live = k.live; same_length = k.behind.same_length ∙ e.same_length }

@@ -1,12 +1,16 @@
 -- What the inner functions of the normal form ask and promise.
 -- Assumes nothing: these are definitions.
-use Rattle.std.specs.Prelude.{ℕ, ◌+◌, ◌<◌, ◌≤◌, ◌≡◌, List, length}
+use Rattle.std.specs.Prelude.{ℕ, ◌+◌, ◌<◌, ◌≤◌, ◌≡◌, List, length, Result}
 use Rattle.steps.specs.Rows.{Rows, root}
 use Rattle.steps.specs.Steps.{Steps, ◌>>=◌, make, sum, product, normal}
 use Rattle.steps.specs.Table.{Slices, rows_of}
-use Rattle.table.specs.declared.make.Made.{Made}
+use Rattle.table.specs.declared.NoRoom.{NoRoom}
+use Rattle.table.specs.declared.Row.{Row}
+use Rattle.table.specs.declared.Table.{Table}
+use Rattle.table.specs.Made.{Made, made_of}
 use Rattle.table.specs.Memory.{Live}
 use Rattle.table.specs.Inner.{Taken, LiveAfter}
+use Rattle.table.specs.Views.{slices_of, SameLoans}
 use Rattle.leads.specs.Inner.{System, Reducing}
 
 -- a number and a system in use in a live table
@@ -73,3 +77,23 @@ rest_steps N a b e f = normal N e f >>= λ c. join_steps N a b c
 -- "Equal: a = else(F) by then(F), b = then(p) by then(F)", and what follows
 abbrev pub meet_steps : ℕ → ℕ → ℕ → ℕ → ℕ → Steps
 meet_steps N t e f u = normal N u f >>= λ a. normal N t f >>= λ b. rest_steps N a b e f
+
+-- the same of a lent table: what the functions ask of it, and what the whole normal form promises
+abbrev pub AskedIn : ℕ → Table → ℕ → ℕ → Type 0
+AskedIn N t p f = Asked N t.count (slices_of t) t.work.now p f
+
+abbrev pub ReducesIn : ℕ → Table → ℕ → ℕ → Type 0
+ReducesIn N t p f = Reduces N t.count (slices_of t) t.work.now p f
+
+abbrev pub BelowIn : ℕ → Table → ℕ → ℕ → ℕ → ℕ → Type 0
+BelowIn N t v x e f = Below N t.count (slices_of t) t.work.now v x e f
+
+abbrev pub MeetIn : ℕ → Table → ℕ → ℕ → ℕ → ℕ → ℕ → Type 0
+MeetIn N t v x e f u = Meet N t.count (slices_of t) t.work.now v x e f u
+
+abbrev pub RestIn : ℕ → Table → ℕ → ℕ → ℕ → ℕ → ℕ → Type 0
+RestIn N t a b v e f = Rest N t.count (slices_of t) t.work.now a b v e f
+
+pub record TookIn (N : ℕ) (m : Steps) (r : Result Row NoRoom) (t t' : Table) : Type 0 where
+  pub same : SameLoans t t'
+  pub took : Took N m (made_of r t'.count) t.count (slices_of t) (slices_of t') t.work.now t'.work.now

@@ -2,16 +2,10 @@
 -- Assumes nothing: these are definitions.
 use Rattle.std.specs.Prelude.{ℕ, ◌≡◌}
 use Rattle.steps.specs.Rows.{bit}
-use Rattle.table.specs.declared.Answer.{Answer}
-use Rattle.table.specs.declared.Answer.TheVariants.{Made, Refused}
-use Rattle.numbers.specs.declared.Valued.{Valued}
-use Rattle.numbers.specs.declared.Valued.TheVariants.{Value, NoValue}
-use Rattle.numbers.specs.declared.Sought.{Sought}
-use Rattle.numbers.specs.declared.Sought.TheVariants.{One, NoOne}
-use Rattle.aiger.specs.declared.Answer.{Answer as Text-answer}
-use Rattle.aiger.specs.declared.Answer.TheVariants.{Counted, Refused as Text-refused}
-use Rattle.endings.specs.declared.Judged.{Judged}
-use Rattle.endings.specs.declared.Judged.TheVariants.{Never, Can, RoomOut, Refused as Circuit-refused}
+use Rattle.table.specs.Answers.{Answer, Made, Refused}
+use Rattle.numbers.specs.Answers.{Valued, Value, NoValue, Sought, One, NoOne}
+use Rattle.aiger.specs.Answers.{Answer as Text-answer, Counted, Refused as Text-refused}
+use Rattle.endings.specs.Answers.{Judged, Never, Can, RoomOut, Refused as Circuit-refused}
 
 pub record Seen (A : Type 0) : Type 0 where
   pub returned : ℕ

@@ -1,78 +1,92 @@
 // For the calls from C: what C sees of an answer, 0 with the out-parameters written, or the refusal's number with the out-parameters as they were.
+// Each answer has other out-parameters, so each has a function. One for all would take a closure that writes them: that is no plainer, and a contract cannot
+// say what a closure taken by value has written.
 #![tactic(auto)]
 
 ghost use Rattle.std.specs.Prelude.{◌≡◌};
+ghost use Rattle.table.specs.Answers.{answer_of};
+ghost use Rattle.numbers.specs.Answers.{valued_of, sought_of};
+ghost use Rattle.aiger.specs.Answers.{answer_of_text};
+ghost use Rattle.endings.specs.Answers.{judged_of};
 ghost use Rattle.shown.specs.Seen.{seen, show_made, show_value, show_one, show_verdict, show_counts};
 
-use endings::Judged;
-use numbers::{Sought, Valued};
-use table::Answer;
+use endings::Verdict;
+use table::{Refusal, Row};
 
-pub fn made(r: Answer, row: &mut u16, used: &mut usize) -> u32
-    ensures { show_made r (row.old, used.old) ≡ seen result (row.new, used.new) }
+// A number, with the count of rows then in use.
+pub fn made(r: Result<Row, Refusal>, count: usize, row: &mut u16, used: &mut usize) -> u32
+    ensures { show_made (answer_of r count) (row.old, used.old) ≡ seen result (row.new, used.new) }
 {
     match r {
-        Answer::Made(k, n) => {
+        Ok(k) => {
             *row = k.0;
-            *used = n;
+            *used = count;
             0
         }
-        Answer::Refused(why) => why as u32,
+        Err(why) => why as u32,
     }
 }
 
-pub fn value(r: Valued, out: &mut u8) -> u32
-    ensures { show_value r out.old ≡ seen result out.new }
+// A value: the byte 0 or 1.
+pub fn value(r: Result<bool, Refusal>, out: &mut u8) -> u32
+    ensures { show_value (valued_of r) out.old ≡ seen result out.new }
 {
     match r {
-        Valued::Value(b) => {
-            *out = b as u8;
+        Ok(b) => {
+            *out = b.into();
             0
         }
-        Valued::NoValue(why) => why as u32,
+        Err(why) => why as u32,
     }
 }
 
-pub fn one(r: Sought) -> u32
-    ensures { show_one r tt ≡ seen result tt }
+// That a one was found: it is in the assignment that was lent.
+pub fn one(r: Result<(), Refusal>) -> u32
+    ensures { show_one (sought_of r) tt ≡ seen result tt }
 {
     match r {
-        Sought::One => 0,
-        Sought::NoOne(why) => why as u32,
+        Ok(()) => 0,
+        Err(why) => why as u32,
     }
 }
 
-pub fn verdict(r: Judged, out: &mut u32, rows: &mut usize) -> u32
-    ensures { show_verdict r (out.old, rows.old) ≡ seen result (out.new, rows.new) }
+// A verdict: 0, the output is never 1; 1, it can be; 2, room ran out, with no count of rows.
+pub fn verdict(r: Result<Verdict, endings::Refusal>, out: &mut u32, rows: &mut usize) -> u32
+    ensures { show_verdict (judged_of r) (out.old, rows.old) ≡ seen result (out.new, rows.new) }
 {
     match r {
-        Judged::Never(n) => {
+        Ok(Verdict::Never(n)) => {
             *out = 0;
             *rows = n;
             0
         }
-        Judged::Can(n) => {
+        Ok(Verdict::Can(n)) => {
             *out = 1;
             *rows = n;
             0
         }
-        Judged::RoomOut => {
+        Ok(Verdict::RoomOut) => {
             *out = 2;
             0
         }
-        Judged::Refused(why) => why as u32,
+        Err(why) => u16::from(why).into(),
     }
 }
 
-pub fn counts(r: aiger::Answer, inputs: &mut usize, outputs: &mut usize) -> u32
-    ensures { show_counts r (inputs.old, outputs.old) ≡ seen result (inputs.new, outputs.new) }
+// How many inputs and outputs a circuit has.
+pub fn counts(
+    r: Result<(u16, u16), aiger::refusal::Refusal>,
+    inputs: &mut usize,
+    outputs: &mut usize,
+) -> u32
+    ensures { show_counts (answer_of_text r) (inputs.old, outputs.old) ≡ seen result (inputs.new, outputs.new) }
 {
     match r {
-        aiger::Answer::Counted(i, o) => {
-            *inputs = i as usize;
-            *outputs = o as usize;
+        Ok((i, o)) => {
+            *inputs = i.into();
+            *outputs = o.into();
             0
         }
-        aiger::Answer::Refused(why) => why as u32,
+        Err(why) => u16::from(why).into(),
     }
 }

@@ -12,8 +12,8 @@ use Rattle.steps.proofs.Rows.{◌≼◌, next_grows, row_keeps}
 use Rattle.steps.proofs.Table.{rows_of_next}
 use Rattle.steps.proofs.Theorems.{Right, sum_right, make_right}
 use Rattle.table.specs.declared.Row.{Row}
-use Rattle.table.specs.declared.make.Made.{Made}
-use Rattle.table.specs.declared.make.Made.TheVariants.{At as Made-at, Full}
+use Rattle.table.specs.Made.{Made}
+use Rattle.table.specs.Made.{At as Made-at, Full}
 use Rattle.table.specs.Index.{Indexed}
 use Rattle.table.specs.Inner.{Entered, Kept}
 use Rattle.table.proofs.Takes.{taken_rows}

@@ -13,12 +13,17 @@ use Rattle.steps.proofs.Rows.{◌≼◌, row_keeps}
 use Rattle.steps.proofs.Table.{rows_of_next}
 use Rattle.steps.proofs.Theorems.{Right}
 use Rattle.table.specs.declared.Row.{Row}
-use Rattle.table.specs.declared.make.Made.{Made}
-use Rattle.table.specs.declared.make.Made.TheVariants.{At, Full}
+use Rattle.table.specs.Made.{Made}
+use Rattle.table.specs.Made.{At, Full}
 use Rattle.table.specs.Lent.{room}
 use Rattle.table.specs.Memory.{Live}
 use Rattle.table.specs.Inner.{Entered, LiveAfter, Kept}
 use Rattle.table.proofs.Takes.{taken_by, taken_nothing, taken_then, taken_full, taken_rows}
+use Rattle.std.specs.Prelude.{Ok}
+use Rattle.table.specs.declared.Table.{Table}
+use Rattle.table.specs.Tables.{LiveIn, KeptIn}
+use Rattle.table.specs.Views.{slices_of}
+use Rattle.table.proofs.Loans.{same}
 use Rattle.table.proofs.Words.{behind_refl, behind_trans, behind_front, live_grows}
 
 -- the answer as it is known after a match
@@ -32,6 +37,10 @@ kept_by e d = record { taken = taken_by e d.taken; live = d.live; behind = d.beh
 -- nothing was appended
 pub kept_nothing : {N : ℕ} {m : Steps} {k : Row} {c : ℕ} {s : Slices} {work : List ℕ} → Live N c s work → m (rows_of s c) ≡ answer k.0 (rows_of s c) → Kept N m (At k c) c s s work work
 kept_nothing {s = s} {work = work} d e = record { taken = taken_nothing d.indexed.lent.used e; live = d; behind = behind_refl (room s) work }
+
+-- nothing was appended to a table
+pub unchanged : {N : ℕ} {m : Steps} {k : Row} {t : Table} → LiveIn N t → m (rows_of (slices_of t) t.count) ≡ answer k.0 (rows_of (slices_of t) t.count) → KeptIn N m (Ok k) t t
+unchanged d e = record { same = same; kept = kept_nothing d e }
 
 -- no room: what comes after is not done
 pub kept_full : {N : ℕ} {m : Steps} {c : ℕ} {s s' : Slices} {work work' : List ℕ} (f : ℕ → Steps) → ((x : ℕ) → Keeps (f x)) → Kept N m Full c s s' work work' → Kept N (m >>= f) Full c s s' work work'

@@ -12,9 +12,8 @@ use Rattle.steps.proofs.Rows.{stop}
 use Rattle.steps.proofs.Table.{rows_of_next}
 use Rattle.steps.proofs.Theorems.{Right}
 use Rattle.table.specs.declared.Row.{Row}
-use Rattle.table.specs.declared.make.Made.TheVariants.{At}
-use Rattle.table.specs.declared.memory.Recalled.{Recalled}
-use Rattle.table.specs.declared.memory.Recalled.TheVariants.{At as Recalled-at}
+use Rattle.table.specs.Made.{At}
+use Rattle.std.specs.Prelude.{Option, Some}
 use Rattle.table.specs.Lent.{room}
 use Rattle.table.specs.Memory.{steps_of, key_of, Live, Remembered, Place, Recalls}
 use Rattle.table.specs.Inner.{Kept}
@@ -27,9 +26,9 @@ module _ (N c : ℕ) (s : Slices) (work : List ℕ) (live : Live N c s work) (op
   key_fits = omega (arith, live_small N c s work live f uf, live_small N c s work live g ug)
 
   module _ (some : 0 < op) (m : Steps) (is : steps_of N op f g ≡ m) (i : ℕ) (place : Place (room s) (length work) i) where
-    pub steps_recalled : {r : Recalled} {k : Row} → r ≡ Recalled-at k → Recalls r work i key → m (rows_of s c) ≡ answer k.0 (rows_of s c)
+    pub steps_recalled : {r : Option Row} {k : Row} → r ≡ Some k → Recalls r work i key → m (rows_of s c) ≡ answer k.0 (rows_of s c)
     steps_recalled {r} {k} e h =
-        let w = subst (λ (x : Recalled). Recalls x work i key) e h in
+        let w = subst (λ (x : Option Row). Recalls x work i key) e h in
         ap (λ (n : Steps). n (rows_of s c)) (sym is) ∙ live_recalls N c s work live op f g k.0 i some known uf ug place (rw z w)
 
     module _ (system : op ≡ 3 → g ≡ 0 → ⊥) (p : Assignment → Bool) (right : Right N m (rows_of s c) 0 p)

@@ -13,9 +13,8 @@ use Rattle.steps.proofs.Sum.{sums_left_0, sums_right_0, sums_same}
 use Rattle.steps.proofs.Comm.{sums_comm}
 use Rattle.steps.proofs.Theorems.{Right, sum_right}
 use Rattle.table.specs.declared.Row.{Row}
-use Rattle.table.specs.declared.make.Made.TheVariants.{At}
-use Rattle.table.specs.declared.memory.Recalled.{Recalled}
-use Rattle.table.specs.declared.memory.Recalled.TheVariants.{At as Recalled-at}
+use Rattle.table.specs.Made.{At}
+use Rattle.std.specs.Prelude.{Option, Some}
 use Rattle.table.specs.Lent.{room}
 use Rattle.table.specs.Memory.{key_of, Live, Place, Recalls}
 use Rattle.table.specs.Inner.{Kept}
@@ -40,7 +39,7 @@ module _ (N c : ℕ) (s : Slices) (work : List ℕ) (f g : ℕ) (live : Live N c
   abbrev R : Rows
   R = rows_of s c
 
-  in_order : {r : Recalled} {k : Row} → r ≡ Recalled-at k → Recalls r work i key → sum N f g (rows_of s c) ≡ answer k.0 (rows_of s c)
+  in_order : {r : Option Row} {k : Row} → r ≡ Some k → Recalls r work i key → sum N f g (rows_of s c) ≡ answer k.0 (rows_of s c)
   in_order = steps_recalled N c s work live 1 f g (omega arith) uf ug key z (omega arith) (sum N f g) (steps_sum N f g) i place
 
   right : Right N (sum N f g) R 0 (λ a. xor (value a R f) (value a R g))
@@ -56,7 +55,7 @@ module _ (N c : ℕ) (s : Slices) (work : List ℕ) (f g : ℕ) (d : Pair N c s 
   pair_key key (turned z) = key_fits N c s work d.live 1 g f (omega arith) d.right d.left key z
 
   module _ (key : ℕ) (q : SumKey f g key) (i : ℕ) (place : Place (room s) (length work) i) where
-    pub recalled : {r : Recalled} {k : Row} → r ≡ Recalled-at k → Recalls r work i key → sum N f g (rows_of s c) ≡ answer k.0 (rows_of s c)
+    pub recalled : {r : Option Row} {k : Row} → r ≡ Some k → Recalls r work i key → sum N f g (rows_of s c) ≡ answer k.0 (rows_of s c)
     recalled {k = k} e h = go q
       where
         go : SumKey f g key → sum N f g (rows_of s c) ≡ answer k.0 (rows_of s c)

@@ -3,8 +3,10 @@
 use Rattle.std.specs.Prelude.{ℕ, ◌+◌, ◌-◌, ◌<◌, min, ◌≡◌, List}
 use Rattle.steps.specs.Rows.{Rows, row, root}
 use Rattle.steps.specs.Table.{Slices}
+use Rattle.table.specs.declared.Table.{Table}
 use Rattle.table.specs.Lent.{Lent}
 use Rattle.table.specs.Memory.{key_of, Live}
+use Rattle.table.specs.Views.{slices_of}
 
 -- f and g are 0, 1 or rows in use
 pub record InUse (c : ℕ) (s : Slices) (f g : ℕ) : Type 0 where
@@ -17,6 +19,9 @@ pub record Pair (N c : ℕ) (s : Slices) (work : List ℕ) (f g : ℕ) : Type 0 
   pub live : Live N c s work
   pub left : f < c + 2
   pub right : g < c + 2
+
+abbrev pub PairIn : ℕ → Table → ℕ → ℕ → Type 0
+PairIn N t f g = Pair N t.count (slices_of t) t.work.now f g
 
 -- neither is 0, and they are not equal
 pub record Apart (f g : ℕ) : Type 0 where

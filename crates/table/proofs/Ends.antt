@@ -10,9 +10,9 @@ use Rattle.steps.specs.Table.{Slices, slices, row_at, rows_of}
 use Rattle.steps.specs.Steps.{Steps}
 use Rattle.steps.specs.Room.{Ending}
 use Rattle.steps.proofs.Table.{rows_of_count}
-use Rattle.table.specs.declared.Answer.TheVariants.{Made as Answer-made, Refused}
-use Rattle.table.specs.declared.make.Made.{Made}
-use Rattle.table.specs.declared.make.Made.TheVariants.{At, Full}
+use Rattle.table.specs.Answers.{Made as Answer-made, Refused}
+use Rattle.table.specs.Made.{Made}
+use Rattle.table.specs.Made.{At, Full}
 use Rattle.table.specs.Calls.{column, freed, left, end_in, take_steps, finished}
 use Rattle.table.specs.Inner.{said, Taken}
 use Rattle.table.specs.Lent.{Lent}

@@ -10,8 +10,8 @@ use Rattle.steps.specs.Steps.{Answer, Steps, answer, append, make}
 use Rattle.steps.proofs.Ok.{make_0, make_found, make_new}
 use Rattle.steps.proofs.Table.{rows_of_count}
 use Rattle.table.specs.declared.Row.{Row}
-use Rattle.table.specs.declared.make.Made.{Made}
-use Rattle.table.specs.declared.make.Made.TheVariants.{At, Full}
+use Rattle.table.specs.Made.{Made}
+use Rattle.table.specs.Made.{At, Full}
 use Rattle.table.specs.Index.{index_words, Chains, Apart, Indexed, enter, Linkable, Front}
 use Rattle.table.specs.Inner.{Taken, IndexOf, Entered}
 use Rattle.table.proofs.Links.{linkable, enter_front, enter_chains, front_refl}

@@ -5,3 +5,5 @@ pub mod Takes
 pub mod Ends
 pub mod Enters
 pub mod Words
+pub mod Loans
+pub mod Laid

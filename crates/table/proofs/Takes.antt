@@ -14,8 +14,8 @@ use Rattle.steps.proofs.Keeps.{Keeps}
 use Rattle.steps.proofs.Room.{within_made, within_full, within_tells, then_within, within_bind}
 use Rattle.steps.proofs.Table.{rows_of_count, rows_of_next, rows_of_agree, rows_of_less, rows_of_push}
 use Rattle.table.specs.declared.Row.{Row}
-use Rattle.table.specs.declared.make.Made.{Made}
-use Rattle.table.specs.declared.make.Made.TheVariants.{At, Full}
+use Rattle.table.specs.Made.{Made}
+use Rattle.table.specs.Made.{At, Full}
 use Rattle.table.specs.Lent.{room, Lent}
 use Rattle.table.specs.Inner.{Beyond, Rest, Taken}
 

@@ -18,7 +18,7 @@ use Rattle.steps.proofs.Rows.{◌≼◌, next_grows}
 use Rattle.steps.proofs.Table.{rows_of_count}
 use Rattle.steps.proofs.Theorems.{Right, remembered, sum_right, product_right, normal_right}
 use Rattle.table.specs.declared.Row.{Row}
-use Rattle.table.specs.declared.make.Made.TheVariants.{At}
+use Rattle.table.specs.Made.{At}
 use Rattle.table.specs.Lent.{room}
 use Rattle.table.specs.Index.{index_size, index_words, Front}
 use Rattle.table.specs.Memory.{memory_size, Size, large, middle, least, reach, steps_of, key_of, Remembered, Words, Live, Place, Stands, Behind}

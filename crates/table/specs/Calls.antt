@@ -6,10 +6,8 @@ use Rattle.steps.specs.Sound.{sound}
 use Rattle.steps.specs.Table.{Slices, slices, rows_of, most_rows}
 use Rattle.steps.specs.Steps.{Steps}
 use Rattle.steps.specs.Room.{Ending, made, full, within}
-use Rattle.table.specs.declared.Answer.{Answer}
-use Rattle.table.specs.declared.Answer.TheVariants.{Made, Refused}
-use Rattle.table.specs.declared.make.Made.{Made as Row-made}
-use Rattle.table.specs.declared.make.Made.TheVariants.{At, Full}
+use Rattle.table.specs.Made.{Made as Row-made, At, Full}
+use Rattle.table.specs.Answers.{Answer, Made, Refused}
 use Rattle.table.specs.Lent.{room}
 
 -- the first that applies, in the order in which it is written

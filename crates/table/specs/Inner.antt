@@ -1,31 +1,29 @@
 -- What the inner functions promise.
 -- Assumes nothing: these are definitions.
-use Rattle.std.specs.Prelude.{ℕ, ◌<◌, ◌≤◌, ◌≡◌, List, length, drop}
+use Rattle.std.specs.Prelude.{ℕ, ◌<◌, ◌≤◌, ◌≡◌, List, length, drop, Option, Some, None}
 use Rattle.steps.specs.Rows.{Row, Rows, find}
 use Rattle.steps.specs.Table.{Slices, rows_of}
 use Rattle.steps.specs.Steps.{Steps}
 use Rattle.steps.specs.Room.{Ending, made, full, within}
-use Rattle.table.specs.declared.index.Found.{Found}
-use Rattle.table.specs.declared.index.Found.TheVariants.{At as Found_at, Nothing}
-use Rattle.table.specs.declared.make.Made.{Made}
-use Rattle.table.specs.declared.make.Made.TheVariants.{At, Full}
+use Rattle.table.specs.declared.Row.{Row as Number}
+use Rattle.table.specs.Made.{Made, At, Full}
 use Rattle.table.specs.Lent.{room}
 use Rattle.table.specs.Index.{Indexed, Front}
 use Rattle.table.specs.Memory.{Live, Behind}
 
 -- the number that was found, 0 for none
-abbrev pub number_of : Found → ℕ
-number_of (Found_at k) = k.0
-number_of Nothing = 0
+abbrev pub number_of : Option Number → ℕ
+number_of (Some k) = k.0
+number_of None = 0
 
-abbrev pub Some : Found → Type 0
-Some (Found_at k) = 0 < k.0
-Some Nothing = Unit {0}
+abbrev pub IfFound : Option Number → Type 0
+IfFound (Some k) = 0 < k.0
+IfFound None = Unit {0}
 
 -- r is what there is of the row x among the rows R
-pub record Finds (r : Found) (R : Rows) (x : Row) : Type 0 where
+pub record Finds (r : Option Number) (R : Rows) (x : Row) : Type 0 where
   pub is : find R x ≡ number_of r
-  pub some : Some r
+  pub some : IfFound r
 
 -- what an answer says, with the rows in use at exit
 abbrev pub said : Made → Slices → Ending

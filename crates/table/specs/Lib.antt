@@ -1,5 +1,9 @@
 pub mod Lent
 pub mod Index
 pub mod Memory
+pub mod Made
+pub mod Answers
 pub mod Inner
 pub mod Calls
+pub mod Views
+pub mod Tables

@@ -1,12 +1,13 @@
 -- Remembered results, in the words behind the index: a word is 0, or holds an operation, its two operands and its result.
 -- Assumes nothing: these are definitions.
-use Rattle.std.specs.Prelude.{ℕ, ◌+◌, ◌*◌, ◌-◌, ◌/◌, ◌%◌, ◌<◌, ◌≤◌, ◌≡◌, cond, List, length, get_or, drop, eqb, leb, ltb}
+use Rattle.std.specs.Prelude.{ℕ, ◌+◌, ◌*◌, ◌-◌, ◌/◌, ◌%◌, ◌<◌, ◌≤◌, ◌≡◌, cond, List, length, get_or, drop, eqb, leb, ltb, Option, Some, None}
 use Rattle.steps.specs.Rows.{Rows, next}
 use Rattle.steps.specs.Steps.{Steps, answer, sum, product, normal}
 use Rattle.steps.specs.Table.{Slices, rows_of}
 use Rattle.steps.specs.Sound.{Sound}
-use Rattle.table.specs.declared.memory.Recalled.{Recalled}
-use Rattle.table.specs.declared.memory.Recalled.TheVariants.{At, Nothing}
+use Rattle.table.specs.declared.Row.{Row as Number}
+use Rattle.table.specs.declared.memory.Operation.{Operation}
+use Rattle.table.specs.declared.memory.Operation.TheVariants.{Sum, Product, NormalForm}
 use Rattle.table.specs.Lent.{room}
 use Rattle.table.specs.Index.{index_words, Indexed}
 
@@ -32,6 +33,12 @@ reach R L = index_words R L + memory_size R (L - index_words R L)
 -- the operations: 1 is the sum, 2 the product, 3 the normal form
 unfoldable pub steps_of : ℕ → ℕ → ℕ → ℕ → Steps
 steps_of N op f g = cond (eqb op 1) (sum N f g) (cond (eqb op 2) (product N f g) (normal N f g))
+
+-- the same of the code's operations
+abbrev pub code_of : Operation → ℕ
+code_of Sum = 1
+code_of Product = 2
+code_of NormalForm = 3
 
 -- the key of an operation on f and g; no operation is 0, so that no key is that of a zero
 abbrev pub key_of : ℕ → ℕ → ℕ → ℕ
@@ -65,9 +72,9 @@ pub record Stands (work : List ℕ) (i key k : ℕ) : Type 0 where
   pub has_key : get_or work i 0 / 65536 ≡ key
   pub has_result : get_or work i 0 % 65536 ≡ k
 
-abbrev pub Recalls : Recalled → List ℕ → ℕ → ℕ → Type 0
-Recalls (At k) work i key = Stands work i key k.0
-Recalls Nothing work i key = Unit {0}
+abbrev pub Recalls : Option Number → List ℕ → ℕ → ℕ → Type 0
+Recalls (Some k) work i key = Stands work i key k.0
+Recalls None work i key = Unit {0}
 
 -- nothing but the index and the memory has changed, in a table of R rows
 pub record Behind (R : ℕ) (work work' : List ℕ) : Type 0 where

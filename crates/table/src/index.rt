@@ -1,22 +1,22 @@
 // For the crates above: the index of the rows in the first words of the working slice.
 ghost use Rattle.std.specs.Prelude.{◌≡◌, ◌<◌, ◌/◌, ◌%◌, length, get_or};
-ghost use Rattle.steps.specs.Rows.{Row as Triple, row_of};
-ghost use Rattle.steps.specs.Table.{slices, rows_of};
-ghost use Rattle.table.specs.Lent.{Lent};
+ghost use Rattle.steps.specs.Rows.{Row as Triple};
 ghost use Rattle.table.specs.Index.{index_size, index_words, bucket, Indexed, Belongs, Linkable, enter};
 ghost use Rattle.table.specs.Inner.{Finds};
+ghost use Rattle.table.specs.Views.{triple, viewed, shown};
 
 use crate::Row;
-use crate::rows::{Node, is_row};
+use crate::rows::{Node, Rows};
 
-// What a search finds: a row's number.
+// A bucket of the index: its number, with the count of the index's words. No words are no index.
 #[derive(Clone, Copy)]
-pub enum Found {
-    At(Row),
-    Nothing,
+pub struct Bucket {
+    pub words: usize,
+    pub number: usize,
 }
 
 // How many words the index of a table of so many rows has.
+#[tactic(auto, unfolding(crate::specs::Index::index_size))]
 fn index_size(rows: usize) -> usize
     ensures { index_size rows ≡ result }
 {
@@ -30,6 +30,7 @@ fn index_size(rows: usize) -> usize
 }
 
 // And in a working slice of len words.
+#[tactic(auto, unfolding(crate::specs::Index::index_words))]
 pub fn index_words(rows: usize, len: usize) -> usize
     ensures { index_words rows len ≡ result }
 {
@@ -37,18 +38,21 @@ pub fn index_words(rows: usize, len: usize) -> usize
     if len < size { 0 } else { size }
 }
 
-// The bucket of a row in an index of h words.
-pub fn bucket(h: usize, x: Node) -> usize
-    ensures { bucket h (row_of x.v.0 x.t.0 x.e.0) ≡ result }
-{
-    let hash = (x.v.0 as usize * 40503 + x.t.0 as usize * 48271 + x.e.0 as usize * 69621) / 16;
-    if h == 8192 {
-        return hash % 8192;
+impl Bucket {
+    // The bucket of a row in an index of so many words.
+    #[tactic(auto, unfolding(crate::specs::Index::bucket))]
+    pub fn of(words: usize, x: Node) -> Bucket
+        ensures words { result.words ≡ words }
+        ensures number { bucket words (triple x) ≡ result.number }
+    {
+        let hash = (x.v.0 as usize * 40503 + x.t.0 as usize * 48271 + x.e.0 as usize * 69621) / 16;
+        let number = match words {
+            8192 => hash % 8192,
+            1024 => hash % 1024,
+            _ => hash % 64,
+        };
+        Bucket { words, number }
     }
-    if h == 1024 {
-        return hash % 1024;
-    }
-    hash % 64
 }
 
 // The newest row of the bucket b, 0 for none.
@@ -67,60 +71,50 @@ fn older(work: &[u64], i: usize) -> usize
     (work[i] % 65536) as usize
 }
 
-// The row x among the count rows in use, from row 0 on.
-fn search(vs: &[u16], ts: &[u16], es: &[u16], count: usize, x: Node) -> Found
-    requires { Lent count (slices vs.now ts.now es.now) }
-    ensures { Finds result (rows_of (slices vs.now ts.now es.now) count) (row_of x.v.0 x.t.0 x.e.0) }
+// The row x, from row 0 on.
+fn search(rows: &Rows<'_>, x: Node) -> Option<Row>
+    ensures { Finds result (shown rows.now) (triple x) }
 {
-    let mut i = 0;
-    while i < count {
-        if is_row(vs, ts, es, i, x) {
-            return Found::At(Row((i + 2) as u16));
+    for i in 0..rows.count {
+        if rows.is(i, x) {
+            return Some(Row((i + 2) as u16));
         }
-        i += 1;
     }
-    Found::Nothing
+    None
 }
 
-// The row x among the count rows in use: in its bucket b of their index of h words, if there is one.
-pub fn find(
-    vs: &[u16],
-    ts: &[u16],
-    es: &[u16],
-    work: &[u64],
-    count: usize,
-    h: usize,
-    b: usize,
-    x: Node,
-) -> Found
-    requires indexed { Indexed count (slices vs.now ts.now es.now) work.now }
-    requires belongs { Belongs (length vs.now) (length work.now) (row_of x.v.0 x.t.0 x.e.0) h b }
-    ensures { Finds result (rows_of (slices vs.now ts.now es.now) count) (row_of x.v.0 x.t.0 x.e.0) }
+// The row x: in its bucket of the rows' index, if there is one.
+pub fn find(rows: &Rows<'_>, work: &[u64], b: Bucket, x: Node) -> Option<Row>
+    requires indexed { Indexed rows.now.count (viewed rows.now) work.now }
+    requires belongs { Belongs (length rows.now.vs.now) (length work.now) (triple x) b.words b.number }
+    ensures { Finds result (shown rows.now) (triple x) }
 {
-    if h == 0 {
-        return search(vs, ts, es, count, x);
+    if b.words == 0 {
+        return search(rows, x);
     }
-    let mut k = head(work, b);
+    let mut k = head(work, b.number);
+    // a walk along links, from newer rows to older: no index is counted
     while 0 < k {
         let i = k - 2;
-        if is_row(vs, ts, es, i, x) {
-            return Found::At(Row(k as u16));
+        if rows.is(i, x) {
+            return Some(Row(k as u16));
         }
         k = older(work, i);
     }
-    Found::Nothing
+    None
 }
 
-// Enters row i into its bucket b of the index of h words.
-pub fn enter(work: &mut [u64], h: usize, b: usize, i: usize)
-    requires linkable { Linkable h i work.old }
-    requires b_lt_h { 0 < h → b < h }
-    ensures { (r : Triple) → bucket h r ≡ b → enter h i r work.old ≡ work.new }
+// Enters row i into its bucket.
+pub fn enter(work: &mut [u64], b: Bucket, i: usize)
+    requires linkable { Linkable b.words i work.old }
+    requires inside { 0 < b.words → b.number < b.words }
+    ensures { (r : Triple) → bucket b.words r ≡ b.number → enter b.words i r work.old ≡ work.new }
 {
-    if h == 0 {
+    if b.words == 0 {
         return;
     }
-    let newest = work[b] / 65536;
+    let k = b.number;
+    let newest = work[k] / 65536;
     work[i] = work[i] / 65536 * 65536 + newest;
-    work[b] = (i as u64 + 2) * 65536 + work[b] % 65536;
+    work[k] = (i as u64 + 2) * 65536 + work[k] % 65536;
 }

@@ -1,6 +1,9 @@
-// The node table: three lent slices, for variable, then and else. Its modules are for the crates above, which nobody else is offered; the public calls on a
-// table stand in the crates numbers, pairs and normal.
+// The lent table and its rows. Its modules are for the crates above, which nobody else is offered; the public calls on a table stand in the crates numbers,
+// pairs and normal.
 #![tactic(auto)]
+
+ghost use Rattle.std.specs.Prelude.{◌≡◌};
+ghost use Rattle.table.specs.declared.Refusal.TheVariants.{RoomOut};
 
 pub mod index;
 pub mod make;
@@ -8,16 +11,52 @@ pub mod memory;
 pub mod rows;
 
 // A number: 0, 1, or 2 more than the place of a row.
-#[derive(Clone, Copy)]
+#[derive(Clone, Copy, PartialEq, Eq, PartialOrd, Ord)]
 pub struct Row(pub u16);
 
 // The index of a ring variable.
-#[derive(Clone, Copy)]
+#[derive(Clone, Copy, PartialEq, Eq, PartialOrd, Ord)]
 pub struct Var(pub u16);
 
-// What a call that may append answers: a number, with the new count of rows in use; or a refusal's number.
+// A table as a caller lends it: three slices of one length, for variable, then and else, with the count of rows in use, and the working slice.
+#[derive(Drop)]
+pub struct Table<'a> {
+    pub vs: &'a mut [u16],
+    pub ts: &'a mut [u16],
+    pub es: &'a mut [u16],
+    pub count: usize,
+    pub work: &'a mut [u64],
+}
+
+// Room has run out.
 #[derive(Clone, Copy)]
-pub enum Answer {
-    Made(Row, usize),
-    Refused(u16),
+pub struct NoRoom;
+
+// Why a call on a table is refused. The numbers are those that C sees.
+#[derive(Clone, Copy, PartialEq, Eq)]
+pub enum Refusal {
+    // N, lengths or count out of range
+    OutOfRange = 1,
+    // the table isn't sound
+    Unsound = 2,
+    // a number isn't 0, 1 or a row in use
+    NotInUse = 3,
+    // a system is 0
+    SystemZero = 4,
+    // a variable is out of range or out of order
+    BadVariable = 5,
+    // no one of 0
+    NoOne = 6,
+    // room has run out
+    RoomOut = 7,
+    // a byte isn't 0 or 1
+    NotABit = 8,
+}
+
+impl From<NoRoom> for Refusal {
+    ghost from_gives = { λ _ e. e ≡ RoomOut };
+
+    fn from(_: NoRoom) -> Refusal {
+        Refusal::RoomOut
+    }
 }

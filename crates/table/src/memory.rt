@@ -1,33 +1,34 @@
 // For the crates above: remembered results, in the words of the working slice behind the index.
-ghost use Rattle.std.specs.Prelude.{◌≡◌, ◌+◌, ◌*◌, ◌-◌, ◌<◌, set};
-ghost use Rattle.table.specs.Memory.{memory_size, reach, key_of, Size, Place, Recalls};
+ghost use Rattle.std.specs.Prelude.{◌≡◌, ◌+◌, ◌*◌, ◌-◌, ◌<◌, length, set};
+ghost use Rattle.table.specs.Memory.{memory_size, reach, code_of, key_of, Size, Place, Recalls};
 
-use crate::Row;
 use crate::index::index_words;
+use crate::{Row, Table};
 
 // The operations whose results are remembered.
-pub const SUM: u64 = 1;
-
-pub const PRODUCT: u64 = 2;
-
-pub const NORMAL_FORM: u64 = 3;
-
-// What the memory has under a key.
 #[derive(Clone, Copy)]
-pub enum Recalled {
-    At(Row),
-    Nothing,
+pub enum Operation {
+    Sum = 1,
+    Product = 2,
+    NormalForm = 3,
+}
+
+// The word that may remember a result, and the key under which it does.
+#[derive(Clone, Copy)]
+pub struct Slot {
+    pub at: usize,
+    pub key: u64,
 }
 
 // The key of an operation on f and g.
-pub fn key(op: u64, f: Row, g: Row) -> u64
-    requires { op < 4 }
-    ensures { key_of op f.0 g.0 ≡ result }
+pub fn key(op: Operation, f: Row, g: Row) -> u64
+    ensures { key_of (code_of op) f.0 g.0 ≡ result }
 {
-    (op * 65536 + f.0 as u64) * 65536 + g.0 as u64
+    (op as u64 * 65536 + f.0 as u64) * 65536 + g.0 as u64
 }
 
 // How many words remember results, of so many behind the index, for a table of so many rows.
+#[tactic(auto, unfolding(crate::specs::Memory::memory_size))]
 fn memory_size(rows: usize, free: usize) -> usize
     ensures { memory_size rows free ≡ result }
 {
@@ -50,54 +51,67 @@ fn memory_size(rows: usize, free: usize) -> usize
 }
 
 // The word for a key among m.
-fn slot(m: usize, key: u64) -> usize
+fn word(m: usize, key: u64) -> usize
     ensures { Size m → result < m }
 {
     let hash = (key % 65536 * 40503 + key / 65536 % 262144 * 48271) / 16;
-    if m == 16384 {
-        return (hash % 16384) as usize;
+    match m {
+        16384 => (hash % 16384) as usize,
+        2048 => (hash % 2048) as usize,
+        _ => (hash % 128) as usize,
     }
-    if m == 2048 {
-        return (hash % 2048) as usize;
-    }
-    (hash % 128) as usize
 }
 
-// The word that remembers what stands under the key, for a table of so many rows and a working slice of len words; where nothing is remembered, none of them.
-pub fn place(rows: usize, len: usize, key: u64) -> usize
-    ensures { Place rows len result }
-{
-    let h = index_words(rows, len);
-    let m = memory_size(rows, len - h);
-    if m == 0 {
-        return len;
+impl Slot {
+    // Where the result under the key stands, for a table of so many rows and a working slice of len words; where nothing is remembered, behind its end.
+    fn of(rows: usize, len: usize, key: u64) -> Slot
+        ensures place { Place rows len result.at }
+        ensures key { result.key ≡ key }
+    {
+        let h = index_words(rows, len);
+        let m = memory_size(rows, len - h);
+        let at = if m == 0 { len } else { h + word(m, key) };
+        Slot { at, key }
     }
-    h + slot(m, key)
 }
 
-// The result that the word i has under the key.
-pub fn recall(work: &[u64], i: usize, key: u64) -> Recalled
-    ensures { Recalls result work.now i key }
+// The result that is remembered.
+fn recall(work: &[u64], slot: Slot) -> Option<Row>
+    ensures { Recalls result work.now slot.at slot.key }
 {
-    if work.len() <= i {
-        return Recalled::Nothing;
+    let w = *work.get(slot.at)?;
+    if w / 65536 == slot.key {
+        Some(Row((w % 65536) as u16))
+    } else {
+        None
     }
-    let w = work[i];
-    if w / 65536 == key {
-        return Recalled::At(Row((w % 65536) as u16));
-    }
-    Recalled::Nothing
 }
 
-// Remembers the result k under the key in the word i.
-pub fn remember(work: &mut [u64], i: usize, key: u64, k: Row)
-    requires { key < 65536 * 65536 * 4 }
-    ensures { set work.old i (key * 65536 + k.0) ≡ work.new }
-{
-    if work.len() <= i {
-        return;
+impl Table<'_> {
+    // Where the result under the key stands.
+    pub fn slot(&self, key: u64) -> Slot
+        ensures place { Place (length self.now.vs.now) (length self.now.work.now) result.at }
+        ensures key { result.key ≡ key }
+    {
+        Slot::of(self.vs.len(), self.work.len(), key)
     }
-    work[i] = key * 65536 + k.0 as u64;
+
+    // The result that is remembered there.
+    pub fn recall(&self, slot: Slot) -> Option<Row>
+        ensures { Recalls result self.now.work.now slot.at slot.key }
+    {
+        recall(self.work, slot)
+    }
+}
+
+// Remembers the result k.
+pub fn remember(work: &mut [u64], slot: Slot, k: Row)
+    requires { slot.key < 65536 * 65536 * 4 }
+    ensures { set work.old slot.at (slot.key * 65536 + k.0) ≡ work.new }
+{
+    if slot.at < work.len() {
+        work[slot.at] = slot.key * 65536 + k.0 as u64;
+    }
 }
 
 // How many words of the working slice a table of so many rows uses.

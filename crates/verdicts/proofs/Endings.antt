@@ -9,7 +9,7 @@ use Rattle.steps.specs.Steps.{Steps}
 use Rattle.steps.specs.Table.{Slices, rows_of}
 use Rattle.steps.proofs.Table.{rows_of_count}
 use Rattle.table.specs.declared.Row.{Row}
-use Rattle.table.specs.declared.make.Made.TheVariants.{At, Full}
+use Rattle.table.specs.Made.{At, Full}
 use Rattle.table.specs.Calls.{laid, cleared, Left as TableLeft, end_in}
 use Rattle.table.specs.Inner.{Taken}
 use Rattle.table.specs.Lent.{room, Lent}

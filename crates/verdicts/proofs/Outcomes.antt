@@ -2,20 +2,19 @@
 use Prim.Native.Nat.{ℕ, zero, suc, ◌<◌, ◌≤◌}
 use mathlib.Core.Path.{◌≡◌, refl, sym, ap, ◌∙◌}
 use mathlib.Core.Bool.{Bool, true, false}
-use mathlib.Core.List.{List, [], ◌∷◌, ◌++◌}
+use mathlib.Core.List.{List}
 use native.Mathlib.Omega.{arith}
 use lib.Dec.{eqb, ltb}
-use lib.ListN.{length, drop, length-append}
-use lib.Seq.{append_snoc, get_or_at}
+use lib.ListN.{length}
 use borrow.Author.Tests.{eqb-true, eqb-false, eq-eqb, ne_eqb, ltb-true, ltb-false, lt-ltb, le-ltb}
 use Rattle.steps.specs.One.{one}
 use Rattle.steps.specs.Room.{made, within}
-use Rattle.steps.specs.Rows.{Row, Rows, none, ◌▹◌, count}
+use Rattle.steps.specs.Rows.{count}
 use Rattle.steps.specs.Steps.{Answer as StepsAnswer}
-use Rattle.steps.specs.Table.{Slices, slices, rows_of}
+use Rattle.steps.specs.Table.{Slices}
 use Rattle.steps.proofs.Room.{Fit, fits, over, fit}
 use Rattle.table.specs.Lent.{room}
-use Rattle.table.specs.Calls.{column, laid}
+pub use Rattle.table.proofs.Laid.{laid_rows}
 use Rattle.aiger.specs.Answers.{number_of_refusal}
 use Rattle.aiger.specs.Net.{Got, got, refused, Net, circuit}
 use Rattle.verdicts.specs.Calls.{Answer, verdict_0, verdict_1, verdict_2, refusal, Left, refuse, lengths_fine, end_with, judge, judge_read, circuit_call}
@@ -114,33 +113,3 @@ case net room x = go (fit room x)
     go : Fit room x → Case net room x
     go (fits h e) = made_case h x.num refl e
     go (over h e) = no_room h (ap (judged net) e)
-
--- the rows made stand from row 0 on
-
-column_length : (f : Row → ℕ) (R : Rows) → length (column f R) ≡ count R
-unfolding column count
-column_length f none = refl
-column_length f (R ▹ r) = omega (arith, length-append (column f R) (f r ∷ []), column_length f R)
-
--- one row more, read off columns that begin with those of the rows before it
-front_row : (R : Rows) (r : Row) (xs ys zs : List ℕ)
-    → rows_of (slices (column (λ r. r.var) R ++ (r.var ∷ xs)) (column (λ r. r.then_part) R ++ (r.then_part ∷ ys)) (column (λ r. r.else_part) R ++ (r.else_part ∷ zs))) (count R) ≡ R
-    → rows_of (slices (column (λ r. r.var) R ++ (r.var ∷ xs)) (column (λ r. r.then_part) R ++ (r.then_part ∷ ys)) (column (λ r. r.else_part) R ++ (r.else_part ∷ zs))) (suc (count R)) ≡ R ▹ r
-unfolding rows_of
-front_row R r xs ys zs h =
-    rw (
-      get_or_at (column (λ r. r.var) R) r.var xs 0 (count R) (column_length (λ r. r.var) R),
-      get_or_at (column (λ r. r.then_part) R) r.then_part ys 0 (count R) (column_length (λ r. r.then_part) R),
-      get_or_at (column (λ r. r.else_part) R) r.else_part zs 0 (count R) (column_length (λ r. r.else_part) R),
-      h,
-    )
-
-front_rows : (R : Rows) (xs ys zs : List ℕ) → rows_of (slices (column (λ r. r.var) R ++ xs) (column (λ r. r.then_part) R ++ ys) (column (λ r. r.else_part) R ++ zs)) (count R) ≡ R
-unfolding column count rows_of
-front_rows none xs ys zs = refl
-front_rows (R ▹ r) xs ys zs =
-    (λ i. rows_of (slices (append_snoc (column (λ r. r.var) R) r.var xs i) (append_snoc (column (λ r. r.then_part) R) r.then_part ys i) (append_snoc (column (λ r. r.else_part) R) r.else_part zs i)) (suc (count R)))
-    ∙ front_row R r xs ys zs (front_rows R (r.var ∷ xs) (r.then_part ∷ ys) (r.else_part ∷ zs))
-
-pub laid_rows : (R : Rows) (s : Slices) → rows_of (laid R s) (count R) ≡ R
-laid_rows R s = front_rows R (drop (count R) s.vars) (drop (count R) s.thens) (drop (count R) s.elses)

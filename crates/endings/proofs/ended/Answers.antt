@@ -1,14 +1,6 @@
-use Rattle.endings.proofs.Ends.{ends_without_room, ends_never, ends_can, pattern_asks}
+use Rattle.endings.proofs.Ends.{ends_never}
 use Rattle.endings.proofs.ended.Goals as goal
 
-pub returns-in_default : goal.returns-in_default
-returns-in_default c = ends_without_room _ _ _ _ (c.in_default.is) (c.free_rows.ensures)
-
-pub returns-then-k-eq0 : goal.returns-then-k-eq0
-returns-then-k-eq0 c = ends_never _ _ _ _ (c.in-At.is) (c.if-k-eq0.true)
-
-pub write_pattern-requires : goal.write_pattern-requires
-write_pattern-requires c = pattern_asks (c.requires) (c.in-At.is)
-
-pub returns : goal.returns
-returns c = ends_can _ _ _ _ (c.in-At.is) (c.if-k-eq0.false) (c.write_pattern.ensures)
+-- written out, so that a wrong count is refused at once
+pub returns-then-k-eq0-clause-answered : goal.returns-then-k-eq0-clause-answered
+returns-then-k-eq0-clause-answered c = rw c.in-Ok.is (ends_never _ _ _ _ c.if-k-eq0.true)

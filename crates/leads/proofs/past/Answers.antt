@@ -1,12 +1,9 @@
 use Rattle.leads.proofs.Walking.{is_past, is_at_lead}
-use native.Mathlib.Omega.{arith}
+use Rattle.std.proofs.Common.{rules}
 use Rattle.leads.proofs.past.Goals as goal
 
-pub row_of-a-requires : goal.row_of-a-requires
-row_of-a-requires c = c.requires
-
-pub returns-then-v-a : goal.returns-then-v-a
-returns-then-v-a c = is_past _ _ _ _ _ _ _ c.row_of-a.ensures c.if-v-a.true
+pub returns-then-lt : goal.returns-then-lt
+returns-then-lt c = is_past _ _ _ _ _ _ _ c.row-a.ensures (search (rules, c.if-lt.ensures))
 
 pub returns : goal.returns
-returns c = is_at_lead _ _ _ _ _ _ _ c.row_of-a.ensures (omega (arith, c.if-v-a.false))
+returns c = is_at_lead _ _ _ _ _ _ _ c.row-a.ensures (search (rules, c.if-lt.ensures))

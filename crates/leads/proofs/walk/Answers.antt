@@ -1,20 +1,18 @@
-use Rattle.leads.proofs.Walking.{walk_asks, walk_starts, walk_ends, walk_on_asks, walk_falls, walk_goes_on}
+use Rattle.std.proofs.Common.{rules}
+use Rattle.leads.proofs.Walking.{walk_starts, walk_ends, walk_on_asks, walk_falls, walk_goes_on}
 use Rattle.leads.proofs.walk.Goals as goal
 
-pub row_of-a-requires : goal.row_of-a-requires
-row_of-a-requires c = walk_asks _ _ _ _ _ c.requires
+pub loop-g-init : goal.loop-g-init
+loop-g-init c = walk_starts _ _ _ _ _ c.requires _ _ _ c.row-a.ensures
 
-pub loop-a-init : goal.loop-a-init
-loop-a-init c = walk_starts _ _ _ _ _ c.requires _ _ _ c.row_of-a.ensures
+pub row-a-requires-in-loop-g : goal.row-a-requires-in-loop-g
+row-a-requires-in-loop-g c = (walk_on_asks _ _ _ _ _ c.requires _ _ _ _ c.loop-g.invariant (search (rules, c.loop-g-test.ensures))).used
 
-pub row_of-a-requires-in-loop-a : goal.row_of-a-requires-in-loop-a
-row_of-a-requires-in-loop-a c = walk_on_asks _ _ _ _ _ c.requires _ _ _ _ c.loop-a.invariant c.loop-a-test.true
+pub loop-g-smaller : goal.loop-g-smaller
+loop-g-smaller c = walk_falls _ _ _ _ _ c.requires _ _ _ _ c.loop-g.invariant (search (rules, c.loop-g-test.ensures)) _ _ _ c.row-a-in-loop-g.ensures
 
-pub loop-a-smaller : goal.loop-a-smaller
-loop-a-smaller c = walk_falls _ _ _ _ _ c.requires _ _ _ _ c.loop-a.invariant c.loop-a-test.true _ _ _ c.row_of-a-in-loop-a.ensures
-
-pub loop-a-preserved : goal.loop-a-preserved
-loop-a-preserved c = walk_goes_on _ _ _ _ _ c.requires _ _ _ _ c.loop-a.invariant c.loop-a-test.true _ _ _ c.row_of-a-in-loop-a.ensures
+pub loop-g-preserved : goal.loop-g-preserved
+loop-g-preserved c = walk_goes_on _ _ _ _ _ c.requires _ _ _ _ c.loop-g.invariant (search (rules, c.loop-g-test.ensures)) _ _ _ c.row-a-in-loop-g.ensures
 
 pub returns : goal.returns
-returns c = walk_ends _ _ _ _ _ c.requires _ _ _ _ c.loop-a.invariant c.loop-a-test.false
+returns c = walk_ends _ _ _ _ _ c.requires _ _ _ _ c.loop-g.invariant (search (rules, c.loop-g-test.ensures))

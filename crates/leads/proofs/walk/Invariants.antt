@@ -1,10 +1,10 @@
 use Prim.Native.Nat.{◌-◌}
-use Rattle.steps.specs.Table.{slices, rows_of}
+use Rattle.table.specs.Views.{shown}
 use Rattle.leads.proofs.Walking.{Walked}
 use Rattle.leads.proofs.walk.Given as goal
 
-abbrev pub invariant-loop-a : goal.invariant-loop-a
-invariant-loop-a l = Walked l.n (rows_of (slices l.vs l.ts l.es) l.count) l.v.0 l.initial.g.0 l.g.0 l.a.v.0 l.a.t.0 l.a.e.0
+abbrev pub invariant-loop-g : goal.invariant-loop-g
+invariant-loop-g l = Walked l.n (shown l.rows) l.v.0 l.initial.g.0 l.g.0 l.a.v.0 l.a.t.0 l.a.e.0
 
-abbrev pub decreases-loop-a : goal.decreases-loop-a
-decreases-loop-a l = l.n - l.a.v.0
+abbrev pub decreases-loop-g : goal.decreases-loop-g
+decreases-loop-g l = l.n - l.a.v.0

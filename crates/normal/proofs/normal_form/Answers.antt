@@ -1,5 +1,7 @@
-use Rattle.checks.proofs.Endings.{zeros_left}
+use Rattle.normal.specs.Calls.{normal_checked, normal_call}
+use Rattle.normal.proofs.CallLaws.{normal_does}
 use Rattle.normal.proofs.normal_form.Goals as goal
 
-pub returns : goal.returns
-returns c = record { does = c.normal_checked-r.ensures; work_after = zeros_left (c.args.work.now) (c.normal_checked-r.new.work) (c.normal_checked-r.auto.work) c.zero_work.ensures }
+pub returns-clause-does : goal.returns-clause-does
+unfolding normal_call
+returns-clause-does c = normal_does _ _ _ _ _ (c.call.ensures.call (λ n s. normal_checked c.args.n n s c.args.p.0 c.args.f.0) (λ p q r l d. d))

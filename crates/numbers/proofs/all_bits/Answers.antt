@@ -1,12 +1,8 @@
-use mathlib.Core.Path.{◌∙◌}
-use Rattle.numbers.proofs.Exits.{bits_stop, bits_on, bits_end}
+use Rattle.std.proofs.Common.{◌∙◌, sym, ltb, rules, tests}
+use Rattle.std.proofs.lemmas.Iterator.{YieldsList-from_slice}
+use Rattle.std.proofs.lemmas.Iterator.Search.{all_from_yields_List}
+use Rattle.numbers.proofs.Bits.{bits_all}
 use Rattle.numbers.proofs.all_bits.Goals as goal
 
-pub returns-then-bytes-i-gt1 : goal.returns-then-bytes-i-gt1
-returns-then-bytes-i-gt1 c = c.loop-i.invariant ∙ bits_stop _ _ c.loop-i-test.true c.if-bytes-i-gt1.true
-
-pub loop-i-preserved : goal.loop-i-preserved
-loop-i-preserved c = c.loop-i.invariant ∙ bits_on _ _ c.loop-i-test.true c.if-bytes-i-gt1.false
-
 pub returns : goal.returns
-returns c = c.loop-i.invariant ∙ bits_end _ _ c.loop-i-test.false
+returns c = bits_all _ ∙ sym (all_from_yields_List (λ b. ltb b 2) _ _ _ c.all.ensures.ran (YieldsList-from_slice c.args.bytes.now cc) (λ x b q k. search (rules, tests)))

@@ -1,5 +1,6 @@
-use Rattle.checks.proofs.Endings.{zeros_left}
+use Rattle.numbers.specs.Calls.{variable_call, variable_checked}
 use Rattle.numbers.proofs.variable.Goals as goal
 
-pub returns : goal.returns
-returns c = record { v_value = c.variable_checked-r.ensures; work_after = zeros_left c.args.work.now c.variable_checked-r.new.work c.variable_checked-r.auto.work c.zero_work.ensures }
+pub returns-clause-v_value : goal.returns-clause-v_value
+unfolding variable_call
+returns-clause-v_value c = c.call.ensures.call (λ n s. variable_checked c.args.n n s c.args.v.0) (λ p q r l d. d)

@@ -1,19 +1,16 @@
 use mathlib.Core.Path.{refl}
-use Rattle.checks.proofs.Endings.{fine_live}
-use Rattle.outputs.proofs.Judging.{not_out_of_range, not_unsound, judge_few, judge_lent, judge_sound, output_there, from_asked, judged_as}
+use Rattle.outputs.proofs.Judging.{judge_few, judge_lent, judge_sound, never_refused, from_asked, judged_as}
 use Rattle.outputs.proofs.judge.Goals as goal
 
-pub bounds-outs-o : goal.bounds-outs-o
-bounds-outs-o c = output_there _ _ _ _ _ _ _ c.requires
+pub returns-in_default : goal.returns-in_default
+returns-in_default c = absurd (never_refused _ _ _ (judge_few _ c.args.net.now _ _ _ _ c.requires) (judge_lent _ c.args.net.now _ _ _ _ c.requires) (judge_sound _ c.args.net.now _ _ _ _ c.requires) _ c.in_default.ensures.checked)
 
-pub judge_from-requires : goal.judge_from-requires
-judge_from-requires c = from_asked _ _ _ _ _ _ _ c.requires _ (fine_live c.check-table.ensures c.in-Fine.is)
+pub judge_from-verdict-requires : goal.judge_from-verdict-requires
+judge_from-verdict-requires c =
+    let w = c.check_table.ensures.only_work in
+    rw (w.count, w.slices) (from_asked _ c.args.net.now _ _ _ _ c.requires _ _ c.inputs.ensures.are c.inputs.ensures.counted c.outputs.ensures.are c.outputs.ensures.counted _ c.in-Ok.ensures.checked.live)
 
-pub returns-in-Fine : goal.returns-in-Fine
-returns-in-Fine c = judged_as _ _ _ _ _ _ _ c.requires _ refl c.judge_from.ensures
-
-pub returns-in-OutOfRange : goal.returns-in-OutOfRange
-returns-in-OutOfRange c = absurd (not_out_of_range _ _ _ (judge_few _ _ _ _ _ _ _ c.requires) (judge_lent _ _ _ _ _ _ _ c.requires) (judge_sound _ _ _ _ _ _ _ c.requires) c.check-table.ensures c.in-OutOfRange.is)
-
-pub returns-in-Unsound : goal.returns-in-Unsound
-returns-in-Unsound c = absurd (not_unsound _ _ _ (judge_few _ _ _ _ _ _ _ c.requires) (judge_lent _ _ _ _ _ _ _ c.requires) (judge_sound _ _ _ _ _ _ _ c.requires) c.check-table.ensures c.in-Unsound.is)
+pub returns-clause-judged : goal.returns-clause-judged
+returns-clause-judged c =
+    let w = c.check_table.ensures.only_work in
+    judged_as _ c.args.net.now _ _ _ _ c.requires _ _ c.inputs.ensures.are c.inputs.ensures.counted c.outputs.ensures.are c.outputs.ensures.counted _ refl (rw (w.count, w.slices) at c.judge_from-verdict.ensures.ended)

@@ -1,15 +1,11 @@
-use Rattle.checks.proofs.Endings.{fine_live}
-use Rattle.outputs.proofs.Judging.{vars_few, empty_sound, not_out_of_range, not_unsound}
+use Rattle.outputs.proofs.Judging.{vars_few, empty_sound, never_refused, build_asks, builds}
 use Rattle.outputs.proofs.system.Goals as goal
 
-pub system_ready-requires : goal.system_ready-requires
-system_ready-requires c = (c.requires, fine_live c.check-table.ensures c.in-Fine.is)
+pub returns-in_default : goal.returns-in_default
+returns-in_default c = absurd (never_refused _ _ _ (vars_few _ c.args.net.now c.requires) c.requires (empty_sound _ c.args.net.now c.requires) _ c.in_default.ensures.checked)
 
-pub returns-in-Fine : goal.returns-in-Fine
-returns-in-Fine c = c.system_ready.ensures
+pub build-requires : goal.build-requires
+build-requires c = let w = c.check_table.ensures.only_work in rw (w.count, w.slices, c.gates.ensures.are) (build_asks _ c.args.net.now c.requires _ c.in-Ok.ensures.checked.live)
 
-pub returns-in-OutOfRange : goal.returns-in-OutOfRange
-returns-in-OutOfRange c = absurd (not_out_of_range _ _ _ (vars_few _ _ _ c.requires) (c.requires.lent) (empty_sound _ _ _ c.requires) c.check-table.ensures c.in-OutOfRange.is)
-
-pub returns-in-Unsound : goal.returns-in-Unsound
-returns-in-Unsound c = absurd (not_unsound _ _ _ (vars_few _ _ _ c.requires) (c.requires.lent) (empty_sound _ _ _ c.requires) c.check-table.ensures c.in-Unsound.is)
+pub returns-clause-builds : goal.returns-clause-builds
+returns-clause-builds c = let w = c.check_table.ensures.only_work in builds _ c.args.net.now c.requires _ _ _ _ (rw (w.count, w.slices, c.gates.ensures.are) at c.build.ensures.kept)

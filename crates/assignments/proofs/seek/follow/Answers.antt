@@ -1,27 +1,21 @@
 use native.Mathlib.Omega.{arith}
-use Rattle.assignments.proofs.Ones.{following_start, follow_stands, follow_var, follow_then_less, follow_else_less, follow_then, follow_else, follow_end}
+use Rattle.assignments.proofs.Ones.{follow_var, follow_then_less, follow_else_less, follow_then, follow_else, follow_end}
 use Rattle.assignments.proofs.seek.follow.Goals as goal
 
-pub loop-k-init : goal.loop-k-init
-loop-k-init c = following_start _ _ _ _ c.requires.1 c.requires.2
-
-pub node_at-x-requires : goal.node_at-x-requires
-node_at-x-requires c = follow_stands _ _ _ _ _ _ c.requires.0 c.loop-k.invariant c.loop-k-test.true
-
 pub bounds-bytes-x : goal.bounds-bytes-x
-bounds-bytes-x c = omega (arith, follow_var _ _ _ _ _ _ c.requires.0 c.loop-k.invariant c.loop-k-test.true _ _ _ c.node_at-x.ensures)
+bounds-bytes-x c = omega (arith, follow_var _ _ _ _ _ _ c.requires.lasting c.loop-k.invariant c.loop-k-test.true _ _ _ c.node-x.ensures)
 
 pub loop-k-smaller-then-x-eq0 : goal.loop-k-smaller-then-x-eq0
-loop-k-smaller-then-x-eq0 c = follow_then_less _ _ _ _ _ _ c.requires.0 c.loop-k.invariant c.loop-k-test.true _ _ _ c.node_at-x.ensures
+loop-k-smaller-then-x-eq0 c = follow_then_less _ _ _ _ _ _ c.requires.lasting c.loop-k.invariant c.loop-k-test.true _ _ _ c.node-x.ensures
 
 pub loop-k-preserved-then-x-eq0 : goal.loop-k-preserved-then-x-eq0
-loop-k-preserved-then-x-eq0 c = follow_then _ _ _ _ _ _ c.requires.0 c.loop-k.invariant c.loop-k-test.true _ _ _ c.node_at-x.ensures c.if-x-eq0.true
+loop-k-preserved-then-x-eq0 c = follow_then _ _ _ _ _ _ c.requires.lasting c.loop-k.invariant c.loop-k-test.true _ _ _ c.node-x.ensures c.if-x-eq0.true
 
 pub loop-k-smaller : goal.loop-k-smaller
-loop-k-smaller c = follow_else_less _ _ _ _ _ _ c.requires.0 c.loop-k.invariant c.loop-k-test.true _ _ _ c.node_at-x.ensures
+loop-k-smaller c = follow_else_less _ _ _ _ _ _ c.requires.lasting c.loop-k.invariant c.loop-k-test.true _ _ _ c.node-x.ensures
 
 pub loop-k-preserved : goal.loop-k-preserved
-loop-k-preserved c = follow_else _ _ _ _ _ _ c.requires.0 c.loop-k.invariant c.loop-k-test.true _ _ _ c.node_at-x.ensures c.if-x-eq0.false
+loop-k-preserved c = follow_else _ _ _ _ _ _ c.requires.lasting c.loop-k.invariant c.loop-k-test.true _ _ _ c.node-x.ensures c.if-x-eq0.false
 
 pub returns : goal.returns
-returns c = follow_end _ _ _ _ _ _ c.requires.0 c.loop-k.invariant (omega (arith, c.loop-k-test.false))
+returns c = follow_end _ _ _ _ _ _ c.requires.lasting c.loop-k.invariant (omega (arith, c.loop-k-test.false))

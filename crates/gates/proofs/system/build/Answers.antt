@@ -1,19 +1,23 @@
 use native.Mathlib.Omega.{arith}
-use Rattle.sums.proofs.Keeping.{kept_is}
+use Rattle.table.proofs.Loans.{same, same_then, kept_error}
 use Rattle.gates.proofs.Looping.{build_starts, gate_asks, gate_full, gate_next, build_ends}
 use Rattle.gates.proofs.system.build.Goals as goal
 
-pub loop-rest-init : goal.loop-rest-init
-loop-rest-init c = build_starts _ _ _ _ _ _ _ (c.requires)
+pub loop-i-init : goal.loop-i-init
+loop-i-init c = record { same = same; left = rw c.requires.none (build_starts _ _ _ _ c.requires) }
 
 pub gate-requires : goal.gate-requires
-gate-requires c = gate_asks _ _ _ _ _ _ _ _ _ _ _ _ (c.loop-rest.invariant) (omega (arith, c.loop-rest-test.true))
+gate-requires c = gate_asks _ _ _ _ _ _ _ _ _ c.loop-i.invariant.left c.loop-i-test.true _
 
-pub returns-in_default : goal.returns-in_default
-returns-in_default c = gate_full _ _ _ _ _ _ _ _ _ _ _ _ (c.loop-rest.invariant) (omega (arith, c.loop-rest-test.true)) (kept_is (c.in_default.is) (c.gate.ensures))
+pub returns-in_err-system : goal.returns-in_err-system
+returns-in_err-system c = kept_error c.from_residual.ensures.0 (same_then c.loop-i.invariant.same c.in_err-system.ensures.same)
+    (rw c.requires.none (gate_full _ _ _ _ _ _ _ _ _ c.loop-i.invariant.left c.loop-i-test.true _ c.in_err-system.ensures.kept))
 
-pub loop-rest-preserved : goal.loop-rest-preserved
-loop-rest-preserved c = gate_next _ _ _ _ _ _ _ _ _ _ _ _ (c.loop-rest.invariant) (omega (arith, c.loop-rest-test.true)) (kept_is (c.in-At.is) (c.gate.ensures))
+pub loop-i-preserved : goal.loop-i-preserved
+loop-i-preserved c = record {
+  same = same_then c.loop-i.invariant.same c.in_ok-system.ensures.same;
+  left = gate_next _ _ _ _ _ _ _ _ _ c.loop-i.invariant.left c.loop-i-test.true _ c.in_ok-system.ensures.kept;
+}
 
 pub returns : goal.returns
-returns c = build_ends _ _ _ _ _ _ _ (c.loop-rest.invariant) (omega (arith, c.loop-rest-test.false))
+returns c = record { same = c.loop-i.invariant.same; kept = rw c.requires.none (build_ends _ _ _ _ c.loop-i.invariant.left (omega (arith, c.loop-i-test.false))) }

@@ -1,9 +1,9 @@
-use Rattle.steps.specs.Table.{slices}
-use Rattle.gates.proofs.Looping.{LeftOf}
+use Rattle.table.specs.Views.{slices_of, SameLoans}
+use Rattle.gates.proofs.Looping.{Behind}
 use Rattle.gates.proofs.system.build.Given as goal
 
-abbrev pub invariant-loop-rest : goal.invariant-loop-rest
-invariant-loop-rest l = LeftOf l.n (slices l.initial.vs l.initial.ts l.initial.es) l.initial.work l.lefts l.rights0 l.rights1 l.gates l.rest l.system.0 l.count (slices l.vs l.ts l.es) l.work
-
-abbrev pub decreases-loop-rest : goal.decreases-loop-rest
-decreases-loop-rest l = l.rest
+abbrev pub invariant-loop-i : goal.invariant-loop-i
+invariant-loop-i l = record {
+  same : SameLoans l.initial.t l.t;
+  left : Behind l.n (slices_of l.initial.t) l.initial.t.work.now l.gates l.i l.system.0 l.t.count (slices_of l.t) l.t.work.now;
+}

@@ -1,21 +1,24 @@
-use Rattle.sums.proofs.Keeping.{kept_is}
+use Rattle.table.proofs.Loans.{same_then, kept_error}
 use Rattle.gates.proofs.Joining.{first_asks, first_full, second_asks, second_full, third_asks, gate_done}
 use Rattle.gates.proofs.system.gate.Goals as goal
 
 pub literal-requires : goal.literal-requires
-literal-requires c = first_asks _ _ _ _ _ _ (c.requires)
+literal-requires c = first_asks _ _ _ _ _ _ c.requires
 
-pub returns-in_default : goal.returns-in_default
-returns-in_default c = first_full _ _ _ _ _ _ (c.requires) (kept_is (c.in_default.is) (c.literal.ensures))
+pub returns-in_err-f : goal.returns-in_err-f
+returns-in_err-f c = kept_error c.from_residual.ensures.0 c.in_err-f.ensures.same (first_full _ _ _ _ _ _ c.requires c.in_err-f.ensures.kept)
 
 pub literal-requires-2 : goal.literal-requires-2
-literal-requires-2 c = second_asks _ _ _ _ _ _ (c.requires) _ _ _ _ (kept_is (c.in-At.is) (c.literal.ensures))
+literal-requires-2 c = second_asks _ _ _ _ _ _ c.requires _ _ _ _ c.in_ok-f.ensures.kept
 
-pub returns-in_default-literal : goal.returns-in_default-literal
-returns-in_default-literal c = second_full _ _ _ _ _ _ (c.requires) _ _ _ _ (kept_is (c.in-At.is) (c.literal.ensures)) (kept_is (c.in_default-literal.is) (c.literal-2.ensures))
+pub returns-in_err-h : goal.returns-in_err-h
+returns-in_err-h c = kept_error c.from_residual-in_err-h.ensures.0 (same_then c.in_ok-f.ensures.same c.in_err-h.ensures.same) (second_full _ _ _ _ _ _ c.requires _ _ _ _ c.in_ok-f.ensures.kept c.in_err-h.ensures.kept)
 
 pub joined-requires : goal.joined-requires
-joined-requires c = third_asks _ _ _ _ _ _ (c.requires) _ _ _ _ (kept_is (c.in-At.is) (c.literal.ensures)) _ _ _ _ (kept_is (c.in-At-literal.is) (c.literal-2.ensures))
+joined-requires c = third_asks _ _ _ _ _ _ c.requires _ _ _ _ c.in_ok-f.ensures.kept _ _ _ _ c.in_ok-h.ensures.kept
 
 pub returns : goal.returns
-returns c = gate_done _ _ _ _ _ _ (c.requires) _ _ _ _ (kept_is (c.in-At.is) (c.literal.ensures)) _ _ _ _ (kept_is (c.in-At-literal.is) (c.literal-2.ensures)) (c.joined.ensures)
+returns c = record {
+  same = same_then c.in_ok-f.ensures.same (same_then c.in_ok-h.ensures.same c.joined.ensures.same);
+  kept = gate_done _ _ _ _ _ _ c.requires _ _ _ _ c.in_ok-f.ensures.kept _ _ _ _ c.in_ok-h.ensures.kept c.joined.ensures.kept;
+}

@@ -1,15 +1,15 @@
-use Rattle.sums.proofs.Keeping.{kept_is}
+use Rattle.table.proofs.Loans.{same_then, kept_error}
 use Rattle.products.proofs.Deep.{three_asks, three_full, three_asks_2, three_done}
 use Rattle.products.proofs.written.sum_three.Goals as goal
 
 pub sum-requires : goal.sum-requires
 sum-requires c = three_asks _ _ _ _ _ _ _ c.requires
 
-pub returns-in_default : goal.returns-in_default
-returns-in_default c = three_full _ _ _ _ _ _ _ c.requires (kept_is c.in_default.is c.sum.ensures)
+pub returns-in_err-d : goal.returns-in_err-d
+returns-in_err-d c = kept_error c.from_residual.ensures.0 c.in_err-d.ensures.same (three_full _ _ _ _ _ _ _ c.requires c.in_err-d.ensures.kept)
 
 pub sum-requires-2 : goal.sum-requires-2
-sum-requires-2 c = three_asks_2 _ _ _ _ _ _ _ c.requires _ _ _ _ (kept_is c.in-At.is c.sum.ensures)
+sum-requires-2 c = three_asks_2 _ _ _ _ _ _ _ c.requires _ _ _ _ c.in_ok-d.ensures.kept
 
 pub returns : goal.returns
-returns c = three_done _ _ _ _ _ _ _ c.requires _ _ _ _ (kept_is c.in-At.is c.sum.ensures) c.sum-2.ensures
+returns c = record { same = same_then c.in_ok-d.ensures.same c.sum-2.ensures.same; kept = three_done _ _ _ _ _ _ _ c.requires _ _ _ _ c.in_ok-d.ensures.kept c.sum-2.ensures.kept }

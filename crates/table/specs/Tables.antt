@@ -1,0 +1,28 @@
+-- What the functions on a lent table promise, of the table before and after.
+-- Assumes nothing: these are definitions.
+use Rattle.std.specs.Prelude.{ℕ, ◌≡◌, Result}
+use Rattle.steps.specs.Steps.{Steps}
+use Rattle.table.specs.declared.Row.{Row}
+use Rattle.table.specs.declared.NoRoom.{NoRoom}
+use Rattle.table.specs.declared.Table.{Table}
+use Rattle.table.specs.Made.{made_of}
+use Rattle.table.specs.Inner.{Taken, Entered, Kept}
+use Rattle.table.specs.Memory.{Live}
+use Rattle.table.specs.Views.{slices_of, SameLoans}
+
+pub record TakenIn (m : Steps) (r : Result Row NoRoom) (t t' : Table) : Type 0 where
+  pub same : SameLoans t t'
+  pub taken : Taken m (made_of r t'.count) t.count (slices_of t) (slices_of t')
+  pub work : t'.work.now ≡ t.work.now
+
+pub record EnteredIn (m : Steps) (r : Result Row NoRoom) (t t' : Table) : Type 0 where
+  pub same : SameLoans t t'
+  pub entered : Entered m (made_of r t'.count) t.count (slices_of t) (slices_of t') t.work.now t'.work.now
+
+-- what the inner functions ask of a table
+abbrev pub LiveIn : ℕ → Table → Type 0
+LiveIn N t = Live N t.count (slices_of t) t.work.now
+
+pub record KeptIn (N : ℕ) (m : Steps) (r : Result Row NoRoom) (t t' : Table) : Type 0 where
+  pub same : SameLoans t t'
+  pub kept : Kept N m (made_of r t'.count) t.count (slices_of t) (slices_of t') t.work.now t'.work.now
