@@ -18,10 +18,6 @@ use Rattle.table.proofs.Takes.{taken_lends}
 use Rattle.table.proofs.Loans.{same}
 use Rattle.checks.specs.Steps.{Kept, StepsTo}
 
--- nothing was done
-pub unchanged : {t : Table} → Lent t.count (slices_of t) → Kept t t
-unchanged l = record { same = same; lent = l; length = refl }
-
 module _ {m : Steps} {t t' : Table} (l : Lent t.count (slices_of t)) (a : SameLoans t t') (w : length t'.work.now ≡ length t.work.now) where
   kept : {r : Made} → Taken m r t.count (slices_of t) (slices_of t') → Kept t t'
   kept d = record { same = a; lent = taken_lends l d; length = w }

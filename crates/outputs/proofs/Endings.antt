@@ -56,9 +56,6 @@ module _ (M c : ℕ) (s : Slices) (work : List ℕ) (l F : ℕ) (ins : List ℕ)
   keeps : (x : ℕ) → Keeps (normal M x F)
   keeps x = keeps_normals M (suc M) x F
 
-  pub from_asks : LiteralAsked M c s work l
-  from_asks = record { live = a.live; low = a.low }
-
   pub from_full : {s₁ : Slices} {work₁ : List ℕ} → Kept M (literal_steps M l) Full c s s₁ work work₁ → (ls p : List ℕ) → Ended (output_from M l F) M ls RoomOut c s s₁ p p
   from_full {s₁} k ls p = ended_full (output_from M l F) M ls c s s₁ p (taken_full (λ x. normal M x F) keeps k.taken)
 

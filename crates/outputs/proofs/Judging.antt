@@ -171,13 +171,3 @@ module _ (s : Slices) (n : Net) (c F o I : ℕ) (a : OutputOf s n c F o I) where
 
         all_taken : take (length p) (literals_in ins) ≡ circuit.inputs
         all_taken = take_all (length p) (literals_in ins) (omega (arith, q, ins_long)) ∙ ins_are
-
--- the system stays from one output to the next
-module _ (s : Slices) (n : Net) (c F : ℕ) (a : Built s n c F) where
-  pub built_stays : (s' : Slices) → Stays c s s' → Built s' n c F
-  built_stays s' t = record {
-    lent = let l = a.lent in
-        record { used = omega arith; small = omega (arith, l.small, t.vars); thens = t.thens ∙ l.thens ∙ sym t.vars; elses = t.elses ∙ l.elses ∙ sym t.vars };
-    fits = omega (arith, a.fits, t.vars);
-    system = a.system ∙ ap (answer F) (sym t.kept);
-  }
