@@ -1,3 +1,2 @@
 pub mod Outputs
 pub mod Verdicts
-pub mod Texts

@@ -15,7 +15,7 @@ use Rattle.table.specs.Views.{slices_of, SameLoans}
 use Rattle.aiger.specs.Form.{Gate}
 use Rattle.reduction.specs.Inner.{Asked, Took, TookIn}
 use Rattle.verdicts.specs.Systems.{literal_steps, build, output_steps}
-use Rattle.gates.specs.Inner.{LiteralAsked, BuildAsked}
+use Rattle.gates.specs.Inner.{BuildAsked}
 use Rattle.gates.proofs.Outputs as gates
 use Rattle.circuit.specs.Inner.{OutputAsked}
 

@@ -19,7 +19,6 @@ use Rattle.reduction.specs.Inner.{Asked, Took}
 use Rattle.verdicts.specs.Calls.{verdict_0, verdict_1}
 use Rattle.verdicts.specs.Systems.{literal_steps}
 use Rattle.verdicts.proofs.Building.{literal_ok}
-use Rattle.gates.specs.Inner.{LiteralAsked}
 use Rattle.endings.specs.Answers.{Never, Can, RoomOut}
 use Rattle.endings.specs.Inner.{bytes_at, PatternAsked}
 use Rattle.outputs.specs.Inner.{output_from, ending_answer, ending_pattern, FromAsked, Stays, Ended}

@@ -32,7 +32,7 @@ use Rattle.verdicts.proofs.Building.{whole_system, keeps_reduce}
 use Rattle.verdicts.proofs.Inputs.{output_low}
 use Rattle.gates.specs.Inner.{BuildAsked}
 use Rattle.endings.specs.Answers.{Judged}
-use Rattle.outputs.specs.Inner.{Built, Builds, output_from, ending_answer, ending_pattern, FromAsked, Stays, Ended, OutputOf, JudgedAs}
+use Rattle.outputs.specs.Inner.{Builds, output_from, ending_answer, ending_pattern, FromAsked, Ended, OutputOf, JudgedAs}
 
 -- a net, and a table for it
 module _ (s : Slices) (n : Net) (a : Lent 0 s) where
