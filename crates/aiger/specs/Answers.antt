@@ -37,6 +37,11 @@ abbrev pub answer_of_text : Result (ℕ × ℕ) Refusal → Answer
 answer_of_text (Ok counts) = Counted counts.0 counts.1
 answer_of_text (Err w) = Refused (number_of_refusal w)
 
+-- I and O of the net, or its refusal with the line
+abbrev pub counts_of : Got Net → Result (ℕ × ℕ) Refusal
+counts_of (got net rest) = Ok (length net.inputs, length net.outputs)
+counts_of (refused w) = Err w
+
 -- what a read found
 
 abbrev pub step_of : List ℕ → Result ℕ Fault → form.Read (Unit {0})
@@ -67,11 +72,6 @@ literals_in = map (λ l. l.0)
 
 abbrev pub gates_in : List Gate → List form.Gate
 gates_in = map lits_of
-
--- lines that gave x
-abbrev pub lines_of : {X : Type 0} → List ℕ → X → Result ℕ Refusal → Got X
-lines_of s x (Ok p) = got x (drop p s)
-lines_of s x (Err w) = refused w
 
 -- the net in three arrays, by the header's numbers
 abbrev pub net_in : Sizes → List Lit → List Lit → List Gate → Net

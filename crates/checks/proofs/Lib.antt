@@ -2,3 +2,4 @@ pub mod Checking
 pub mod Findings
 pub mod CallEnds
 pub mod Steps
+pub mod Never

@@ -1,5 +1,5 @@
 -- The written steps, taken in a call.
-use mathlib.Core.Path.{◌≡◌, refl}
+use mathlib.Core.Path.{◌≡◌}
 use lib.ListN.{length}
 use Rattle.std.specs.Prelude.{Result, Ok, Err}
 use Rattle.steps.specs.Steps.{Steps}
@@ -15,12 +15,7 @@ use Rattle.std.specs.Result.{IsErrAnd}
 use Rattle.table.specs.Views.{slices_of, SameLoans}
 use Rattle.table.proofs.Ends.{taken_ends}
 use Rattle.table.proofs.Takes.{taken_lends}
-use Rattle.table.proofs.Loans.{same}
 use Rattle.checks.specs.Steps.{Kept, StepsTo}
-
--- nothing was done
-pub unchanged : {t : Table} → Lent t.count (slices_of t) → Kept t t
-unchanged l = record { same = same; lent = l; length = refl }
 
 module _ {m : Steps} {t t' : Table} (l : Lent t.count (slices_of t)) (a : SameLoans t t') (w : length t'.work.now ≡ length t.work.now) where
   kept : {r : Made} → Taken m r t.count (slices_of t) (slices_of t') → Kept t t'

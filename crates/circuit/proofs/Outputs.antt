@@ -15,7 +15,7 @@ use Rattle.table.specs.Views.{slices_of, SameLoans}
 use Rattle.aiger.specs.Form.{Gate}
 use Rattle.reduction.specs.Inner.{Asked, Took, TookIn}
 use Rattle.verdicts.specs.Systems.{literal_steps, build, output_steps}
-use Rattle.gates.specs.Inner.{LiteralAsked, BuildAsked}
+use Rattle.gates.specs.Inner.{BuildAsked}
 use Rattle.gates.proofs.Outputs as gates
 use Rattle.circuit.specs.Inner.{OutputAsked}
 
@@ -32,9 +32,6 @@ module _ (N c₀ : ℕ) (s : Slices) (work : List ℕ) (all : List Gate) (l : �
   module _ (F : Row) (c : ℕ) (s₁ : Slices) (work₁ : List ℕ) (k : Kept N (build N all 1) (At F c) c₀ s s₁ work work₁) where
     built : Kept N (build N all 1) (At F c) 0 s s₁ work work₁
     built = rw none at k
-
-    pub literal_asks : LiteralAsked N c s₁ work₁ l
-    literal_asks = gates.output_asks N s work all empty l a.low F c s₁ work₁ built
 
     pub literal_full : {s₂ : Slices} {work₂ : List ℕ} → Kept N (literal_steps N l) Full c s₁ s₂ work₁ work₂ → Took N (output_steps N all l) Full c₀ s s₂ work work₂
     literal_full d = record { taken = rw none (gates.output_full N s work all empty l a.low F c s₁ work₁ built d); live = tt; same_length = d.behind.same_length ∙ k.behind.same_length }

@@ -7,14 +7,12 @@ use native.Mathlib.Omega.{arith}
 use lib.Dec.{eqb, leb}
 use lib.ListN.{length, get_or, take, length-map}
 use lib.Seq.{take_all}
-use borrow.Author.Tests.{ltb-true, eqb-true, eqb-false, leb-true, le-leb, eq-eqb}
-use Rattle.std.proofs.lemmas.Bool.{true≢false}
+use borrow.Author.Tests.{ltb-true, eqb-true, eqb-false, leb-true}
 use Rattle.std.proofs.lemmas.List.{get_or-map}
 use Rattle.std.specs.Prelude.{Option, Some, nat_lt}
 use Rattle.std.specs.Option.{is_some, IfSome}
 use Rattle.std.proofs.Common.{Bor}
 use Rattle.steps.specs.One.{one}
-use Rattle.steps.specs.Sound.{sound}
 use Rattle.steps.specs.Table.{Slices, rows_of, most_rows}
 use Rattle.steps.specs.Rows.{none, next}
 use Rattle.steps.specs.Steps.{Answer as StepsAnswer, answer}
@@ -22,22 +20,20 @@ use Rattle.steps.proofs.Bools.{both_true}
 use Rattle.steps.proofs.Table.{rows_of_next, rows_of_none}
 use Rattle.table.specs.declared.Row.{Row}
 use Rattle.table.specs.declared.Refusal.{Refusal}
-use Rattle.table.specs.declared.Refusal.TheVariants.{OutOfRange, Unsound}
 use Rattle.table.specs.Made.{Made, At, Full}
-use Rattle.table.specs.Calls.{in_range}
 use Rattle.table.specs.Lent.{room, Lent}
 use Rattle.table.specs.Memory.{Live}
 use Rattle.table.proofs.Takes.{taken_rows, taken_lent, taken_lends}
 use Rattle.checks.specs.Checks.{Refuses}
+use Rattle.checks.proofs.Never.{never_refused, empty_sound}
 use Rattle.reduction.specs.Inner.{Took}
 use Rattle.aiger.specs.Form.{Gate}
-use Rattle.aiger.specs.Answers.{sizes_of, literals_in}
+use Rattle.aiger.specs.Answers.{literals_in}
 use Rattle.aiger.specs.Circuit.{circuit_of}
 use Rattle.aiger.specs.Net.{Net as Circuit}
 use Rattle.aiger.specs.declared.lines.Lit.{Lit}
 use Rattle.aiger.specs.declared.net.Net.{Net}
 use Rattle.aiger.proofs.Accepted.{inputs_at, gates_ascending}
-use Rattle.aiger.proofs.WholeNet.{within}
 use Rattle.verdicts.specs.Calls.{left, lengths_fine, end_with, judge, circuit_call}
 use Rattle.verdicts.specs.Systems.{output_steps}
 use Rattle.verdicts.specs.Verdicts.{verdict_of}
@@ -59,19 +55,8 @@ lent_fine s fine =
     record { used = omega arith; small = leb-true (room s) most_rows z.0; thens = eqb-true (length s.thens) (room s) z.1; elses = eqb-true (length s.elses) (room s) y.1 }
 
 -- the check finds nothing in an empty table
-
-empty_in_range : (N : ℕ) (s : Slices) → N ≤ 1024 → Lent 0 s → in_range N 0 s ≡ true
-unfolding in_range
-empty_in_range N s h l = rw (le-leb N 1024 h, le-leb (room s) 8192 l.small, eq-eqb (length s.thens) (room s) l.thens, eq-eqb (length s.elses) (room s) l.elses, le-leb 0 (room s) l.used)
-
-empty_sound : (N : ℕ) (s : Slices) → sound N (rows_of s 0) ≡ true
-unfolding sound rows_of
-empty_sound N s = refl
-
-pub never_refused : (s : Slices) (x : Net) → lengths_fine s ≡ true → (why : Refusal) → Refuses why x.sizes.vars 0 s → ⊥
-never_refused s x fine OutOfRange e = true≢false (sym (empty_in_range x.sizes.vars s (within (sizes_of x.sizes) x.small).vars (lent_fine s fine)) ∙ e)
-never_refused s x fine Unsound e = true≢false (sym (empty_sound x.sizes.vars s) ∙ e.1)
-never_refused s x fine _ e = e
+pub check_passes : (s : Slices) (x : Net) → lengths_fine s ≡ true → (why : Refusal) → Refuses why x.sizes.vars 0 s → ⊥
+check_passes s x fine = never_refused x.sizes.vars 0 s x.accepted.vars (lent_fine s fine) (empty_sound x.sizes.vars s)
 
 -- an empty table, the literal l of an output of an accepted net, and a pattern of I bytes, one for each input
 pub record Judgeable (x : Net) (s : Slices) (o l I : ℕ) : Type 0 where

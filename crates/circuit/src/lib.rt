@@ -5,10 +5,11 @@ mod output;
 
 ghost use Rattle.std.specs.Prelude.{◌≡◌, true, length, replicate};
 ghost use Rattle.table.specs.Views.{slices_of, SameLoans};
+ghost use Rattle.aiger.specs.Net as net;
 ghost use Rattle.aiger.specs.Circuit.{circuit_of};
 ghost use Rattle.verdicts.specs.Calls.{lengths_fine, judge, circuit_call};
 ghost use Rattle.endings.specs.Answers.{Answered, judged_of};
-ghost use Rattle.circuit.specs.Inner.{Counted};
+ghost use Rattle.circuit.specs.Inner.{Counted, IfText};
 
 use crate::output::output;
 use aiger::net::Net;
@@ -31,6 +32,7 @@ fn judge(net: &Net, t: &mut Table<'_>, o: usize, pattern: &mut [u8]) -> Result<V
     requires { lengths_fine (slices_of t.old) ≡ true }
     ensures answered { Answered (judge (circuit_of net.now) (slices_of t.old) o pattern.old) (judged_of result) (slices_of t.new) pattern.new }
     ensures count { Counted result t.old.count t.new.count }
+    ensures text { IfText (λ _. ⊥) result }
     ensures same { SameLoans t.old t.new }
     ensures same_length { length t.new.work.now ≡ length t.old.work.now }
 {
@@ -56,6 +58,7 @@ fn judge_text(
 ) -> Result<Verdict, Refusal>
     ensures answered { Answered (circuit_call text.now (slices_of t.old) o pattern.old) (judged_of result) (slices_of t.new) pattern.new }
     ensures count { Counted result t.old.count t.new.count }
+    ensures text { IfText (λ w. net.circuit text.now ≡ net.refused w) result }
     ensures same { SameLoans t.old t.new }
     ensures same_length { length t.new.work.now ≡ length t.old.work.now }
 {
@@ -75,6 +78,7 @@ pub fn circuit(
 ) -> Result<Verdict, Refusal>
     ensures answered { Answered (circuit_call text.now (slices_of t.old) o pattern.old) (judged_of result) (slices_of t.new) pattern.new }
     ensures count { Counted result t.old.count t.new.count }
+    ensures text { IfText (λ w. net.circuit text.now ≡ net.refused w) result }
     ensures same { SameLoans t.old t.new }
     ensures work_after { t.new.work.now ≡ replicate (length t.old.work.now) 0 }
 {

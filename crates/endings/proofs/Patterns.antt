@@ -67,9 +67,6 @@ pub record Written (M : ℕ) (ins p₀ p ones : List ℕ) (i : ℕ) : Type 0 whe
   pub each : (j : ℕ) → j < i → get_or p j 0 ≡ get_or ones (M - get_or ins j 0 / 2) 0
 
 module _ (M : ℕ) (ins p₀ ones : List ℕ) where
-  pub written_start : Written M ins p₀ p₀ ones 0
-  written_start = record { same_length = refl; few = omega arith; each = λ j h. absurd (omega arith) }
-
   pub written_next : {p : List ℕ} {i : ℕ} → Written M ins p₀ p ones i → i < length p → Written M ins p₀ (set p i (get_or ones (M - get_or ins i 0 / 2) 0)) ones (i + 1)
   written_next {p} {i} x h = record { same_length = length-set p i v ∙ x.same_length; few = omega (arith, x.same_length); each = λ j g. at j g (eqb j i) refl }
     where

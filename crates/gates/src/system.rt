@@ -53,6 +53,7 @@ pub fn build(t: &mut Table<'_>, n: u16, gates: &[Gate]) -> Result<Row, NoRoom>
     ensures { KeptIn n (build n (gates_in gates.now) 1) result t.old t.new }
 {
     let mut system = Row(1);
+    // by index, so that the edit on the order keeps the names that the proof cites
     for i in 0..gates.len() {
         system = gate(t, n, gates[i], system)?;
     }

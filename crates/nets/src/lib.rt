@@ -7,7 +7,7 @@ mod defined;
 ghost use Rattle.std.specs.Prelude.{◌≡◌};
 ghost use Rattle.aiger.specs.Net as net;
 ghost use Rattle.aiger.specs.Circuit.{net_of};
-ghost use Rattle.aiger.specs.Answers.{text_call, answer_of_text};
+ghost use Rattle.aiger.specs.Answers.{text_call, answer_of_text, counts_of};
 
 use crate::body::read_body;
 use aiger::header::{limits, line_of_header};
@@ -34,7 +34,8 @@ pub fn read_net(s: &[u8]) -> Result<(Net, usize), Refusal>
 
 // The text call: the scope's checks from 9 to the output literals, then I and O.
 pub fn text(s: &[u8]) -> Result<(u16, u16), Refusal>
-    ensures { answer_of_text result ≡ text_call s.now }
+    ensures answer { answer_of_text result ≡ text_call s.now }
+    ensures exact { result ≡ counts_of (net.circuit s.now) }
 {
     let (net, _) = read_net(s)?;
     Ok((net.sizes.inputs, net.sizes.outputs))

@@ -60,12 +60,11 @@ pub fn equation(
         if !in_order(&rows, n, lead, system, tail) {
             return Err(Refusal::BadVariable);
         }
-        let made = t.make(Node {
+        Ok(t.make(Node {
             v: lead,
             t: system,
             e: tail,
-        })?;
-        Ok(made)
+        })?)
     };
     call(n, t, steps)
 }
@@ -84,8 +83,7 @@ pub fn normal_form(n: usize, t: &mut Table<'_>, p: Row, f: Row) -> Result<Row, R
         ensures { StepsTo (normal_checked n t.old.count (slices_of t.old) p.0 f.0) result t.old t.new }
     {
         questions(&t.rows(), p, f)?;
-        let made = reduce(t, n, p, f)?;
-        Ok(made)
+        Ok(reduce(t, n, p, f)?)
     };
     call(n, t, steps)
 }

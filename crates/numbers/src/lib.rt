@@ -31,12 +31,11 @@ pub fn variable(n: usize, t: &mut Table<'_>, v: Var) -> Result<Row, Refusal>
         if n <= v.0 {
             return Err(Refusal::BadVariable);
         }
-        let made = t.make(Node {
+        Ok(t.make(Node {
             v,
             t: Row(1),
             e: Row(0),
-        })?;
-        Ok(made)
+        })?)
     };
     call(n, t, steps)
 }

@@ -19,7 +19,6 @@ use Rattle.reduction.specs.Inner.{Asked, Took}
 use Rattle.verdicts.specs.Calls.{verdict_0, verdict_1}
 use Rattle.verdicts.specs.Systems.{literal_steps}
 use Rattle.verdicts.proofs.Building.{literal_ok}
-use Rattle.gates.specs.Inner.{LiteralAsked}
 use Rattle.endings.specs.Answers.{Never, Can, RoomOut}
 use Rattle.endings.specs.Inner.{bytes_at, PatternAsked}
 use Rattle.outputs.specs.Inner.{output_from, ending_answer, ending_pattern, FromAsked, Stays, Ended}
@@ -55,9 +54,6 @@ module _ (m : Steps) (M : ℕ) (ls : List ℕ) (c : ℕ) (s s' : Slices) (p : Li
 module _ (M c : ℕ) (s : Slices) (work : List ℕ) (l F : ℕ) (ins : List ℕ) (I : ℕ) (a : FromAsked M c s work l F ins I) where
   keeps : (x : ℕ) → Keeps (normal M x F)
   keeps x = keeps_normals M (suc M) x F
-
-  pub from_asks : LiteralAsked M c s work l
-  from_asks = record { live = a.live; low = a.low }
 
   pub from_full : {s₁ : Slices} {work₁ : List ℕ} → Kept M (literal_steps M l) Full c s s₁ work work₁ → (ls p : List ℕ) → Ended (output_from M l F) M ls RoomOut c s s₁ p p
   from_full {s₁} k ls p = ended_full (output_from M l F) M ls c s s₁ p (taken_full (λ x. normal M x F) keeps k.taken)

@@ -1,24 +1,17 @@
 -- The system of a net, and its outputs.
 use Prim.Native.Nat.{ℕ, zero, suc, ◌+◌, ◌*◌, ◌<◌, ◌≤◌}
 use mathlib.Core.Path.{◌≡◌, refl, sym, ap, ◌∙◌}
-use mathlib.Core.Bool.{Bool, true, false}
 use mathlib.Core.List.{List}
 use native.Mathlib.Omega.{arith}
 use lib.ListN.{length, get_or, take, length-map}
 use lib.Seq.{take_all}
-use borrow.Author.Tests.{le-leb, eq-eqb}
 use Rattle.steps.specs.Room.{Ending, made, full, within}
 use Rattle.steps.specs.Rows.{Rows}
 use Rattle.steps.specs.Sound.{Sound}
 use Rattle.steps.specs.Steps.{Answer, answer}
 use Rattle.steps.specs.Table.{Slices, rows_of}
-use Rattle.steps.proofs.Sound.{true_sound}
 use Rattle.steps.proofs.Table.{rows_of_next, rows_of_none}
-use Rattle.table.specs.declared.Refusal.{Refusal}
-use Rattle.table.specs.declared.Refusal.TheVariants.{OutOfRange, Unsound}
 use Rattle.table.specs.Made.{Made, At, Full}
-use Rattle.table.specs.Calls.{in_range}
-use Rattle.checks.specs.Checks.{Refuses}
 use Rattle.table.specs.Inner.{Kept}
 use Rattle.table.specs.Lent.{room, Lent}
 use Rattle.table.specs.Memory.{Live}
@@ -39,21 +32,7 @@ use Rattle.verdicts.proofs.Building.{whole_system, keeps_reduce}
 use Rattle.verdicts.proofs.Inputs.{output_low}
 use Rattle.gates.specs.Inner.{BuildAsked}
 use Rattle.endings.specs.Answers.{Judged}
-use Rattle.outputs.specs.Inner.{Built, Builds, output_from, ending_answer, ending_pattern, FromAsked, Stays, Ended, OutputOf, JudgedAs}
-
--- the check finds nothing in a sound table of the right lengths
-module _ (N c : ℕ) (s : Slices) (few : N ≤ 1024) (l : Lent c s) (w : Sound N (rows_of s c)) where
-  in_range_here : in_range N c s ≡ true
-  unfolding in_range
-  in_range_here = rw (le-leb N 1024 few, le-leb (room s) 8192 l.small, eq-eqb (length s.thens) (room s) l.thens, eq-eqb (length s.elses) (room s) l.elses, le-leb c (room s) l.used)
-
-  both_ways : {b : Bool} → b ≡ true → b ≡ false → ⊥
-  both_ways p q = let z : ◌≡◌ {A = Bool} true false = sym p ∙ q in let y : ◌≡◌ {A = ℕ} 0 1 = cc in omega arith
-
-  pub never_refused : (why : Refusal) → Refuses why N c s → ⊥
-  never_refused OutOfRange d = both_ways in_range_here d
-  never_refused Unsound d = both_ways (true_sound N (rows_of s c) w) d.1
-  never_refused _ d = absurd d
+use Rattle.outputs.specs.Inner.{Builds, output_from, ending_answer, ending_pattern, FromAsked, Ended, OutputOf, JudgedAs}
 
 -- a net, and a table for it
 module _ (s : Slices) (n : Net) (a : Lent 0 s) where
@@ -62,10 +41,6 @@ module _ (s : Slices) (n : Net) (a : Lent 0 s) where
 
   pub vars_few : n.sizes.vars ≤ 1024
   vars_few = limits_hold.vars
-
-  pub empty_sound : Sound n.sizes.vars (rows_of s 0)
-  unfolding Sound rows_of
-  empty_sound = tt
 
   pub build_asks : (work : List ℕ) → Live n.sizes.vars 0 s work → BuildAsked n.sizes.vars 0 s work (circuit_of n).gates
   build_asks work live = record { none = refl; live = live; order = gates_ascending n.accepted }
@@ -171,13 +146,3 @@ module _ (s : Slices) (n : Net) (c F o I : ℕ) (a : OutputOf s n c F o I) where
 
         all_taken : take (length p) (literals_in ins) ≡ circuit.inputs
         all_taken = take_all (length p) (literals_in ins) (omega (arith, q, ins_long)) ∙ ins_are
-
--- the system stays from one output to the next
-module _ (s : Slices) (n : Net) (c F : ℕ) (a : Built s n c F) where
-  pub built_stays : (s' : Slices) → Stays c s s' → Built s' n c F
-  built_stays s' t = record {
-    lent = let l = a.lent in
-        record { used = omega arith; small = omega (arith, l.small, t.vars); thens = t.thens ∙ l.thens ∙ sym t.vars; elses = t.elses ∙ l.elses ∙ sym t.vars };
-    fits = omega (arith, a.fits, t.vars);
-    system = a.system ∙ ap (answer F) (sym t.kept);
-  }

@@ -39,8 +39,7 @@ where
         if !rows.has(f) || !rows.has(g) {
             return Err(Refusal::NotInUse);
         }
-        let made = written(t, n, f, g)?;
-        Ok(made)
+        Ok(written(t, n, f, g)?)
     };
     call(n, t, steps)
 }

@@ -57,13 +57,6 @@ module _ (N c : ℕ) (s : Slices) (work : List ℕ) (a ft gt ge : ℕ) (d : Quad
   keeps_second : (b : ℕ) → Keeps (product N ft ge >>= λ z. three_steps N a b z)
   keeps_second b = keeps_bind (product N ft ge) (λ z. three_steps N a b z) (keeps_products N (suc N) ft ge) (keeps_third b)
 
-  pub rest_asks : (t : ℕ) → 4 * depth_rest N (rows_of s c) ft gt ge + 2 ≡ t → (4 * depth N (rows_of s c) ft gt + 1 < t) × Pair N c s work ft gt
-  rest_asks t e =
-      let R = rows_of s c in
-      let h : min (root N R ft) (min (root N R gt) (root N R ge)) ≤ min (root N R ft) (root N R gt) =
-      le-min (min-le_left (root N R ft) (min (root N R gt) (root N R ge))) (omega (arith, min-le_right (root N R ft) (min (root N R gt) (root N R ge)), min-le_left (root N R gt) (root N R ge))) in
-      (omega arith, record { live = d.live; left = d.ft_used; right = d.gt_used })
-
   pub rest_full : {s₁ : Slices} {work₁ : List ℕ} → Kept N (product N ft gt) Full c s s₁ work work₁ → Kept N (rest_steps N a ft gt ge) Full c s s₁ work work₁
   rest_full k = kept_full (λ b. product N ft ge >>= λ z. three_steps N a b z) keeps_second k
 
@@ -101,14 +94,6 @@ module _ (N c : ℕ) (s : Slices) (work : List ℕ) (ft fe gt ge : ℕ) (d : Qua
   keeps_rest a = keeps_bind (product N ft gt) (λ b. product N ft ge >>= λ z. three_steps N a b z) (keeps_products N (suc N) ft gt) (λ b.
       keeps_bind (product N ft ge) (λ z. three_steps N a b z) (keeps_products N (suc N) ft ge) (λ z.
       keeps_bind (sum N a b) (λ k. sum N k z) (keeps_sums N (suc N) a b) (λ k. keeps_sums N (suc N) k z)))
-
-  pub then_asks : (t : ℕ) → 4 * depth_then N (rows_of s c) ft fe gt ge + 3 ≡ t → (4 * depth N (rows_of s c) fe gt + 1 < t) × Pair N c s work fe gt
-  then_asks t e =
-      let R = rows_of s c in
-      let m = min (root N R ft) (min (root N R gt) (root N R ge)) in
-      let h : min (root N R fe) m ≤ min (root N R fe) (root N R gt) =
-      le-min (min-le_left (root N R fe) m) (omega (arith, min-le_right (root N R fe) m, min-le_right (root N R ft) (min (root N R gt) (root N R ge)), min-le_left (root N R gt) (root N R ge))) in
-      (omega arith, record { live = d.live; left = d.fe_used; right = d.gt_used })
 
   pub then_asks_second : (t : ℕ) → 4 * depth_then N (rows_of s c) ft fe gt ge + 3 ≡ t → (4 * depth N (rows_of s c) ft ge + 1 < t) × Pair N c s work ft ge
   then_asks_second t e =

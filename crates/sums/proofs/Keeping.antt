@@ -1,6 +1,6 @@
 -- How kept promises are put together.
 use Prim.Native.Nat.{ℕ, ◌+◌, ◌<◌}
-use mathlib.Core.Path.{◌≡◌, ap, subst}
+use mathlib.Core.Path.{◌≡◌, ap}
 use mathlib.Core.List.{List}
 use mathlib.Core.Bool.{Bool}
 use native.Mathlib.Omega.{arith}
@@ -25,10 +25,6 @@ use Rattle.table.specs.Tables.{LiveIn, KeptIn}
 use Rattle.table.specs.Views.{slices_of}
 use Rattle.table.proofs.Loans.{same}
 use Rattle.table.proofs.Words.{behind_refl, behind_trans, behind_front, live_grows}
-
--- the answer as it is known after a match
-pub kept_is : {N : ℕ} {m : Steps} {r r' : Made} {c : ℕ} {s s' : Slices} {work work' : List ℕ} → r ≡ r' → Kept N m r c s s' work work' → Kept N m r' c s s' work work'
-kept_is {N} {m} {c = c} {s} {s'} {work} {work'} p d = subst (λ (x : Made). Kept N m x c s s' work work') p d
 
 -- the same steps under another name
 pub kept_by : {N : ℕ} {m n : Steps} {r : Made} {c : ℕ} {s s' : Slices} {work work' : List ℕ} → m (rows_of s c) ≡ n (rows_of s c) → Kept N n r c s s' work work' → Kept N m r c s s' work work'

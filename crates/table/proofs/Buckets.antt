@@ -5,7 +5,7 @@ use mathlib.Core.Bool.{Bool, true, false}
 use native.Mathlib.Omega.{arith}
 use native.Mathlib.Nat.{mod-lt}
 use lib.Dec.{eqb, ltb}
-use borrow.Author.Tests.{lt-ltb, le-ltb, eq-eqb, ne_eqb, eqb-true, eqb-false, ltb-false}
+use borrow.Author.Tests.{eq-eqb, ne_eqb, eqb-true, eqb-false, ltb-false}
 use Rattle.steps.specs.Rows.{Row, Rows, none, ◌▹◌, next, alike, find}
 use Rattle.steps.proofs.Rows.{◌≼◌, stop, more}
 use Rattle.steps.proofs.Found.{alike_true, find_other}
@@ -109,16 +109,6 @@ module _ (H : ℕ) where
       go true e m ih q = rw (e, newest_in) (at R r stop (eqb-true (bucket H r) b e) (λ x p. refl))
       go false e m (nowhere f) q = rw (e, newest_in, q) (nowhere (λ x p. past (eqb-false (bucket H r) b e) x p ∙ f x p))
       go false e m (at S y le h f) q = rw (e, newest_in, q) (at S y (more le) h (λ x p. past (eqb-false (bucket H r) b e) x p ∙ f x p))
-
--- the words of the index, from its size
-module _ (R L S : ℕ) (e : index_size R ≡ S) where
-  pub index_short : L < S → index_words R L ≡ 0
-  unfolding index_words
-  index_short h = rw (e, lt-ltb L S h, index_words)
-
-  pub index_long : S ≤ L → index_words R L ≡ S
-  unfolding index_words
-  index_long h = rw (e, le-ltb L S h, index_words)
 
 -- an index has room for every row
 pub index_room : (R L : ℕ) → R ≤ 8192 → 0 < index_words R L → R ≤ index_words R L

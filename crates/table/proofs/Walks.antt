@@ -140,6 +140,3 @@ module _ (s : Slices) (c : ℕ) (work : List ℕ) (x : Row) (d : Indexed c s wor
 
   pub find_start : (b k : ℕ) → bucket H x ≡ b → get_or work b 0 / 65536 ≡ k → Walk H (rows_of s c) x k
   find_start b k q p = walk_start H (rows_of s c) x k (rw q (sym (chained.heads b (find_bucket b q)) ∙ p))
-
-pub search_end : (s : Slices) (c i : ℕ) (x : Row) → i ≤ c → c ≤ i → find (rows_of s i) x ≡ 0 → find (rows_of s c) x ≡ 0
-search_end s c i x h g e = let q : c ≡ i = omega arith in rw q e

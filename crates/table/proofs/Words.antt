@@ -4,7 +4,6 @@ use mathlib.Core.Path.{◌≡◌, refl, sym, ap, ◌∙◌}
 use mathlib.Core.Bool.{Bool, true, false}
 use mathlib.Core.List.{List, [], ◌∷◌}
 use native.Mathlib.Omega.{arith}
-use native.Mathlib.Nat.{mod-lt}
 use native.Mathlib.Decide.{ℕ_discrete}
 use lib.Dec.{eqb, ltb, leb}
 use lib.ListN.{length, get_or, set, length-set}
@@ -86,9 +85,6 @@ module _ (R L h m : ℕ) (eh : index_words R L ≡ h) (em : memory_size R (L - h
 
   pub place_at : (i : ℕ) → i < m → Place R L (h + i)
   place_at i l = record { inside = λ b. (omega (arith, eh), omega (arith, reach_is)) }
-
-pub place_nowhere : (R L : ℕ) → Place R L L
-place_nowhere R L = record { inside = λ b. absurd (omega arith) }
 
 -- the operations
 module _ (N : ℕ) where
@@ -229,9 +225,3 @@ live_grows {N} {m} {k} {c} {n} {s} {s'} {work} {work'} d e g w = record {
         rw v (remembered_grows N (rows_of s c) (rows_of s' n) op x y _ d.sound p p' g (d.words.each i op x y l b p p' lx ly (sym (ap (λ (z : ℕ). z / 65536) v) ∙ q)));
   });
 }
-
--- a slot is a word of the memory
-pub slot_least : (m x : ℕ) → (m ≡ 16384 → ⊥) → (m ≡ 2048 → ⊥) → Size m → x % 128 < m
-slot_least m x h g large = absurd (h refl)
-slot_least m x h g middle = absurd (g refl)
-slot_least m x h g least = mod-lt x (omega arith)

@@ -14,12 +14,6 @@ pub record Lent (c : ℕ) (s : Slices) : Type 0 where
   pub thens : length s.thens ≡ room s
   pub elses : length s.elses ≡ room s
 
--- row i stands in the slices
-pub record Stands (i : ℕ) (s : Slices) : Type 0 where
-  pub in_vars : i < length s.vars
-  pub in_thens : i < length s.thens
-  pub in_elses : i < length s.elses
-
 -- k is a constant or the number of a row in use
 pub record Numbered (c : ℕ) (s : Slices) (k : ℕ) : Type 0 where
   pub lent : Lent c s

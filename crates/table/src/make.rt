@@ -34,12 +34,8 @@ impl Table<'_> {
         ensures count { result.count ≡ self.now.count }
         ensures shown { shown result ≡ rows_of (slices_of self.now) self.now.count }
     {
-        Rows {
-            vs: self.vs,
-            ts: self.ts,
-            es: self.es,
-            count: self.count,
-        }
+        let View { vs, ts, es, count } = self.view();
+        Rows { vs, ts, es, count }
     }
 
     // The row x behind the rows in use.

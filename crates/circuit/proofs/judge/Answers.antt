@@ -1,9 +1,9 @@
 use mathlib.Core.Path.{refl}
-use Rattle.circuit.proofs.Verdicts.{never_refused, judgeable, output_asks, end_asks, judge_done}
+use Rattle.circuit.proofs.Verdicts.{check_passes, judgeable, output_asks, end_asks, judge_done}
 use Rattle.circuit.proofs.judge.Goals as goal
 
 pub returns-in_err-check_table : goal.returns-in_err-check_table
-returns-in_err-check_table c = absurd (never_refused _ c.args.net.now c.requires _ c.in_err-check_table.ensures.checked)
+returns-in_err-check_table c = absurd (check_passes _ c.args.net.now c.requires _ c.in_err-check_table.ensures.checked)
 
 pub output-made-requires : goal.output-made-requires
 output-made-requires c =

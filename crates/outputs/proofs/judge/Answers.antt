@@ -1,5 +1,6 @@
 use mathlib.Core.Path.{refl}
-use Rattle.outputs.proofs.Judging.{judge_few, judge_lent, judge_sound, never_refused, from_asked, judged_as}
+use Rattle.checks.proofs.Never.{never_refused}
+use Rattle.outputs.proofs.Judging.{judge_few, judge_lent, judge_sound, from_asked, judged_as}
 use Rattle.outputs.proofs.judge.Goals as goal
 
 pub returns-in_default : goal.returns-in_default

@@ -2,14 +2,14 @@ use Rattle.checks.proofs.Steps.{made_to, full_to}
 use Rattle.normal.proofs.CallLaws.{system_fine}
 use Rattle.normal.proofs.fn.normal_form.steps.Goals as goal
 
-pub returns-in_err-made : goal.returns-in_err-made
-returns-in_err-made c =
+pub returns-in_err-reduce : goal.returns-in_err-reduce
+returns-in_err-reduce c =
     let u = rw c.rows.ensures.count at c.in_ok-questions.ensures in
-    let d = c.in_err-made.ensures in
-    rw (← system_fine _ _ _ _ _ u) (full_to c.requires.indexed.lent d.same d.took.same_length _ c.from_residual-in_err-made.ensures.1 d.took.taken)
+    let d = c.in_err-reduce.ensures in
+    rw (← system_fine _ _ _ _ _ u) (full_to c.requires.indexed.lent d.same d.took.same_length _ c.from_residual-in_err-reduce.ensures.1 d.took.taken)
 
 pub returns : goal.returns
 returns c =
     let u = rw c.rows.ensures.count at c.in_ok-questions.ensures in
-    let d = c.in_ok-made.ensures in
+    let d = c.in_ok-reduce.ensures in
     rw (← system_fine _ _ _ _ _ u) (made_to c.requires.indexed.lent d.same d.took.same_length d.took.taken)
