@@ -10,5 +10,6 @@ pub mod Marking
 pub mod LiteralLines
 pub mod GateLines
 pub mod KnownOutputs
+pub mod Gave
 -- The printed run
 mod Printed

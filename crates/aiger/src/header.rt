@@ -47,6 +47,7 @@ fn five(s: &[u8], at: usize) -> Result<(Sizes, usize), Fault>
     Ok((sizes, end))
 }
 
+// The whole line.
 #[tactic(auto, unfolding(crate::specs::Form::line, crate::specs::Form::header))]
 pub fn line_of_header(s: &[u8], at: usize) -> Result<(Sizes, usize), Fault>
     ensures { header_of s.now result ≡ form.line form.header (drop at s.now) }

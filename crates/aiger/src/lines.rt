@@ -18,6 +18,7 @@ pub struct Gate {
     pub right1: Lit,
 }
 
+// Whether a newline stands at the position or behind it.
 #[tactic(auto, using(crate::proofs::AtPosition::newline_end, crate::proofs::AtPosition::any_from))]
 pub fn newline_left(s: &[u8], from: usize) -> bool
     ensures { result ≡ form.newline_left (drop from s.now) }
@@ -34,6 +35,7 @@ pub fn further(s: &[u8], at: usize) -> Result<(u16, usize), Fault>
     number_at(s, p)
 }
 
+// A line of one number. It and the lines of a gate and a header are three functions, since each is held to a reader of the definition, and a function cannot be one.
 #[tactic(auto, unfolding(crate::specs::Form::line))]
 pub fn line_of_number(s: &[u8], at: usize) -> Result<(u16, usize), Fault>
     ensures { number_of s.now result ≡ form.line form.number (drop at s.now) }
@@ -46,6 +48,7 @@ pub fn line_of_number(s: &[u8], at: usize) -> Result<(u16, usize), Fault>
     Ok((n, end))
 }
 
+// A line of a gate.
 #[tactic(auto, unfolding(crate::specs::Form::line, crate::specs::Form::gate))]
 pub fn line_of_gate(s: &[u8], at: usize) -> Result<(Gate, usize), Fault>
     ensures { gate_of s.now result ≡ form.line form.gate (drop at s.now) }

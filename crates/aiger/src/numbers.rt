@@ -1,4 +1,5 @@
-// Bytes and numbers. A position counts bytes from the text's start and stands for what is left of the text there.
+// Bytes and numbers. A position counts bytes from the text's start and stands for what is left of the text there. The functions take the text and the position apart, since
+// the scope wants the `Reader` that holds both to be thin, over functions that do.
 ghost use Rattle.std.specs.Prelude.{◌≡◌, drop};
 ghost use Rattle.aiger.specs.Form as form;
 ghost use Rattle.aiger.specs.Answers.{step_of, number_of};

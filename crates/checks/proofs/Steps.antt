@@ -15,10 +15,10 @@ use Rattle.std.specs.Result.{IsErrAnd}
 use Rattle.table.specs.Views.{slices_of, SameLoans}
 use Rattle.table.proofs.Ends.{taken_ends}
 use Rattle.table.proofs.Takes.{taken_lends}
-use Rattle.checks.specs.Steps.{Kept, StepsTo}
+use Rattle.checks.specs.Steps.{StillLent, StepsTo}
 
 module _ {m : Steps} {t t' : Table} (l : Lent t.count (slices_of t)) (a : SameLoans t t') (w : length t'.work.now ≡ length t.work.now) where
-  kept : {r : Made} → Taken m r t.count (slices_of t) (slices_of t') → Kept t t'
+  kept : {r : Made} → Taken m r t.count (slices_of t) (slices_of t') → StillLent t t'
   kept d = record { same = a; lent = taken_lends l d; length = w }
 
   -- a number was made

@@ -8,7 +8,7 @@ use Rattle.table.specs.declared.Table.{Table}
 use Rattle.table.specs.declared.Row.{Row}
 use Rattle.table.specs.declared.Refusal.{Refusal}
 use Rattle.table.specs.declared.Refusal.TheVariants.{RoomOut}
-use Rattle.table.specs.Answers.{answer_of, Refused, number_of_refusal}
+use Rattle.table.specs.Answers.{answered_of, Refused, number_of_refusal}
 use Rattle.table.specs.Calls.{Left, left, cleared, in_range, checked, refuse}
 use Rattle.table.specs.Lent.{Lent}
 use Rattle.table.specs.Tables.{LiveIn}
@@ -19,22 +19,22 @@ abbrev pub MayStep : ℕ → (MutBor Table → ℕ → Type 0) → Type 0
 MayStep n pre = (p : MutBor Table) → LiveIn n p.now → pre p n
 
 -- after them the slices are those that were lent, as long as before
-pub record Kept (t t' : Table) : Type 0 where
+pub record StillLent (t t' : Table) : Type 0 where
   pub same : SameLoans t t'
   pub lent : Lent t.count (slices_of t')
   pub length : length t'.work.now ≡ length t.work.now
 
 abbrev pub Keeps : ℕ → (MutBor Table → ℕ → Result Row Refusal → MutBor Table → Type 0) → Type 0
-Keeps n post = (p q : MutBor Table) (r : Result Row Refusal) → LiveIn n p.now → post p n r q → Kept p.now q.now
+Keeps n post = (p q : MutBor Table) (r : Result Row Refusal) → LiveIn n p.now → post p n r q → StillLent p.now q.now
 
 -- what a call's steps come to, once the free rows are zeroed where room has run out
 abbrev pub Ends : Left → Result Row Refusal → Table → Table → Type 0
-Ends done (Ok k) t t' = done ≡ left (answer_of (Ok k) t'.count) (slices_of t')
+Ends done (Ok k) t t' = done ≡ left (answered_of (Ok k) t'.count) (slices_of t')
 Ends done (Err RoomOut) t t' = done ≡ left (Refused 7) (cleared t.count (slices_of t'))
 Ends done (Err why) t t' = done ≡ left (Refused (number_of_refusal why)) (slices_of t')
 
 pub record StepsTo (done : Left) (r : Result Row Refusal) (t t' : Table) : Type 0 where
-  pub kept : Kept t t'
+  pub kept : StillLent t t'
   pub ends : Ends done r t t'
 
 abbrev pub ComesTo : ℕ → (ℕ → Slices → Left) → (MutBor Table → ℕ → Result Row Refusal → MutBor Table → Type 0) → Type 0

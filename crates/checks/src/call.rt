@@ -1,7 +1,7 @@
 // For the crates above: a call that may append.
 ghost use Rattle.std.specs.Prelude.{◌≡◌, ℕ, length, replicate, OnErr};
 ghost use Rattle.steps.specs.Table.{Slices};
-ghost use Rattle.table.specs.Answers.{answer_of};
+ghost use Rattle.table.specs.Answers.{answered_of};
 ghost use Rattle.table.specs.Calls.{Left, left};
 ghost use Rattle.table.specs.Views.{slices_of, SameLoans};
 ghost use Rattle.checks.specs.Steps.{MayStep, Keeps, ComesTo, checked_call};
@@ -17,7 +17,7 @@ where
     requires may_step { MayStep n (F.pre steps) }
     requires keeps { Keeps n (F.post steps) }
     ensures call { (done : ℕ → Slices → Left) → ComesTo n done (F.post steps)
-        → checked_call n done t.old ≡ left (answer_of result t.new.count) (slices_of t.new) }
+        → checked_call n done t.old ≡ left (answered_of result t.new.count) (slices_of t.new) }
     ensures count { OnErr result (t.new.count ≡ t.old.count) }
     ensures same { SameLoans t.old t.new }
     ensures same_length { length t.new.work.now ≡ length t.old.work.now }
@@ -41,7 +41,7 @@ where
     requires may_step { MayStep n (F.pre steps) }
     requires keeps { Keeps n (F.post steps) }
     ensures call { (done : ℕ → Slices → Left) → ComesTo n done (F.post steps)
-        → checked_call n done t.old ≡ left (answer_of result t.new.count) (slices_of t.new) }
+        → checked_call n done t.old ≡ left (answered_of result t.new.count) (slices_of t.new) }
     ensures count { OnErr result (t.new.count ≡ t.old.count) }
     ensures same { SameLoans t.old t.new }
     ensures work_after { t.new.work.now ≡ replicate (length t.old.work.now) 0 }

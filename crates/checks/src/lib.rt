@@ -1,4 +1,4 @@
-// For the crates above: what every call on a table does first and last. It checks what is lent, and zeros the free rows where room has run out.
+// For the crates above: what every call on a table does first and last. It checks what is lent, zeros the free rows where room has run out, and the working slice; `call` does so for every call that may append.
 #![tactic(auto)]
 
 pub mod call;

@@ -17,7 +17,7 @@ pub fn write_pattern(rows: &Rows<'_>, n: u16, k: Row, inputs: &[Lit], pattern: &
 {
     let mut ones = [0u8; 1024];
     one_of(rows, k, &mut ones);
-    // one index for both slices
+    // one index for both slices: `zip` would lend the pattern, of which the invariant speaks
     for i in 0..pattern.len() {
         let v = Var(n - inputs[i].0 / 2);
         pattern[i] = ones[v.0 as usize];

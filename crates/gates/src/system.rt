@@ -53,9 +53,12 @@ pub fn build(t: &mut Table<'_>, n: u16, gates: &[Gate]) -> Result<Row, NoRoom>
     ensures { KeptIn n (build n (gates_in gates.now) 1) result t.old t.new }
 {
     let mut system = Row(1);
-    // by index, so that the edit on the order keeps the names that the proof cites
+    // By index, and with the error written out: the edits `gates_from_the_last` and `full_as_an_answer` change these places, and keep the names that the proof cites.
     for i in 0..gates.len() {
-        system = gate(t, n, gates[i], system)?;
+        let Ok(next) = gate(t, n, gates[i], system) else {
+            return Err(NoRoom);
+        };
+        system = next;
     }
     Ok(system)
 }

@@ -1,4 +1,5 @@
-// The calls as C sees them, declared in include/mg.h: each makes the public call of its name and shows the answer. The promise is the public call's own.
+// The calls as C sees them, declared in include/mg.h: each makes the public call of its name and shows the answer. The promise is the public call's own. Parameters are C's:
+// slices and numbers one by one, of which each makes a `Table` or a `View`.
 #![tactic(auto)]
 
 ghost use Rattle.std.specs.Prelude.{◌≡◌, ◌&&◌, length, replicate};

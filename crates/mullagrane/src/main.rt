@@ -9,7 +9,7 @@ ghost use Rattle.mullagrane.specs.Inner.{Ready};
 use aiger::net::Net;
 use nets::read_net;
 use outputs::system;
-use printing::{print, print_no_room, print_refusal};
+use printing::{print, print_refusal};
 use reading::read_full;
 use std::io;
 use table::{NoRoom, Row, Table};
@@ -25,10 +25,7 @@ fn print_all(
     requires { Ready (made_of made t.old.count) (slices_of t.old) net.now (length pattern.old) }
 {
     for o in 0..net.sizes.outputs as usize {
-        let line = match made {
-            Ok(system) => print(net, t, system, o, pattern),
-            Err(NoRoom) => print_no_room(o),
-        };
+        let line = print(net, t, made, o, pattern);
         rt.print(line)?;
     }
     Ok(())

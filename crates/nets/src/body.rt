@@ -31,7 +31,7 @@ fn number_line(s: &[u8], at: usize, n: usize) -> Result<(u16, usize), Refusal>
     Ok((number, next))
 }
 
-// The gate on line `n`, with the next position.
+// The gate on line `n`, with the next position. Like the number, but held to another reader of the definition.
 fn gate_line(s: &[u8], at: usize, n: usize) -> Result<(Gate, usize), Refusal>
     ensures { gate_read s.now result ≡ net.on_line n form.gate (drop at s.now) }
 {

@@ -19,14 +19,14 @@ use Rattle.table.specs.Answers.{Answer, Made, Refused}
 use Rattle.table.specs.Calls.{unless◌then◌else◌, in_use, Left, left, refuse, take_steps, IfMade, Does}
 use Rattle.table.proofs.Laid.{steps_made}
 use Rattle.checks.proofs.CallEnds.{unless_made, checked_made, does_unique}
-use Rattle.normal.specs.Calls.{system_checked, in_order, InUse, equation_checked, equation_call, Adds, normal_checked, normal_call, Reduced}
+use Rattle.normal.specs.Calls.{system_checked, in_order, SystemInUse, equation_checked, equation_call, Adds, normal_checked, normal_call, Reduced}
 
 -- neither 3 nor 4
 module _ (c k F : ℕ) (s : Slices) (done : Left) where
-  pub system_fine : InUse c k F → done ≡ system_checked c s k F done
+  pub system_fine : SystemInUse c k F → done ≡ system_checked c s k F done
   system_fine u = rw (lt-ltb k (c + 2) u.number, lt-ltb F (c + 2) u.system, ne_eqb F 0 u.not_0)
 
-  system_made : {m : Number} {n : ℕ} {s' : Slices} → system_checked c s k F done ≡ left (Made m n) s' → InUse c k F × (done ≡ left (Made m n) s')
+  system_made : {m : Number} {n : ℕ} {s' : Slices} → system_checked c s k F done ≡ left (Made m n) s' → SystemInUse c k F × (done ≡ left (Made m n) s')
   system_made e =
       let used = unless_made (in_use c k && in_use c F) 3 s (unless not (eqb F 0) then refuse 4 s else done) e in
       let some = unless_made (not (eqb F 0)) 4 s done used.1 in

@@ -16,14 +16,14 @@ abbrev pub system_checked : ℕ → Slices → ℕ → ℕ → Left → Left
 system_checked c s k F done = unless in_use c k && in_use c F then refuse 3 s else unless not (eqb F 0) then refuse 4 s else done
 
 -- the number k and the system F are in use, and F is not 0
-pub record InUse (c k F : ℕ) : Type 0 where
+pub record SystemInUse (c k F : ℕ) : Type 0 where
   pub number : k < c + 2
   pub system : F < c + 2
   pub not_0 : F ≡ 0 → ⊥
 
 -- what the two questions come to: all is in use, or the call is refused so, whatever else it does
 abbrev pub Questioned : {A : Type 0} → Result A Refusal → ℕ → ℕ → ℕ → Type 0
-Questioned (Ok a) c k F = InUse c k F
+Questioned (Ok a) c k F = SystemInUse c k F
 Questioned (Err why) c k F = (s : Slices) (done : Left) → system_checked c s k F done ≡ refuse (number_of_refusal why) s
 
 -- "Adding an equation needs i < N, and the roots of F and of t to be greater in index than i." (5)

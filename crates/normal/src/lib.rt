@@ -2,7 +2,7 @@
 #![tactic(auto)]
 
 ghost use Rattle.std.specs.Prelude.{◌≡◌, ◌<◌, ◌+◌, length, replicate, OnErr};
-ghost use Rattle.table.specs.Answers.{answer_of};
+ghost use Rattle.table.specs.Answers.{answered_of};
 ghost use Rattle.table.specs.Calls.{Does};
 ghost use Rattle.table.specs.Tables.{LiveIn};
 ghost use Rattle.table.specs.Views.{shown, slices_of, SameLoans};
@@ -46,7 +46,7 @@ pub fn equation(
 ) -> Result<Row, Refusal>
     ensures does { Does (Adds t.old.count (slices_of t.old) lead.0 system.0 tail.0)
         (equation_call n t.old.count (slices_of t.old) lead.0 system.0 tail.0)
-        (answer_of result t.new.count) (slices_of t.new) }
+        (answered_of result t.new.count) (slices_of t.new) }
     ensures count { OnErr result (t.new.count ≡ t.old.count) }
     ensures same { SameLoans t.old t.new }
     ensures work_after { t.new.work.now ≡ replicate (length t.old.work.now) 0 }
@@ -73,7 +73,7 @@ pub fn equation(
 pub fn normal_form(n: usize, t: &mut Table<'_>, p: Row, f: Row) -> Result<Row, Refusal>
     ensures does { Does (Reduced t.old.count (slices_of t.old) p.0 f.0)
         (normal_call n t.old.count (slices_of t.old) p.0 f.0)
-        (answer_of result t.new.count) (slices_of t.new) }
+        (answered_of result t.new.count) (slices_of t.new) }
     ensures count { OnErr result (t.new.count ≡ t.old.count) }
     ensures same { SameLoans t.old t.new }
     ensures work_after { t.new.work.now ≡ replicate (length t.old.work.now) 0 }

@@ -2,7 +2,7 @@
 #![tactic(auto)]
 
 ghost use Rattle.std.specs.Prelude.{◌≡◌, length, replicate, OnErr};
-ghost use Rattle.table.specs.Answers.{answer_of};
+ghost use Rattle.table.specs.Answers.{answered_of};
 ghost use Rattle.table.specs.Calls.{left};
 ghost use Rattle.table.specs.Views.{slices_seen, slices_of, SameLoans};
 ghost use Rattle.numbers.specs.Answers.{valued_of, sought_of};
@@ -19,7 +19,7 @@ use table::{Refusal, Row, Table, Var};
 
 // The variable x_v.
 pub fn variable(n: usize, t: &mut Table<'_>, v: Var) -> Result<Row, Refusal>
-    ensures v_value { variable_call n t.old.count (slices_of t.old) v.0 ≡ left (answer_of result t.new.count) (slices_of t.new) }
+    ensures v_value { variable_call n t.old.count (slices_of t.old) v.0 ≡ left (answered_of result t.new.count) (slices_of t.new) }
     ensures count { OnErr result (t.new.count ≡ t.old.count) }
     ensures same { SameLoans t.old t.new }
     ensures work_after { t.new.work.now ≡ replicate (length t.old.work.now) 0 }
@@ -39,6 +39,8 @@ pub fn variable(n: usize, t: &mut Table<'_>, v: Var) -> Result<Row, Refusal>
     };
     call(n, t, steps)
 }
+
+// Value and one only read the table, so they take a `View` of it beside the working slice, and not a closure: their answers and what they write differ.
 
 // Whether all bytes are 0 or 1.
 fn all_bits(bytes: &[u8]) -> bool

@@ -5,7 +5,7 @@
 ghost use Rattle.std.specs.Prelude.{◌≡◌, length, take};
 ghost use Rattle.table.specs.Lent.{Lent};
 ghost use Rattle.table.specs.Made.{made_of};
-ghost use Rattle.table.specs.Views.{slices_of, SameLoans};
+ghost use Rattle.table.specs.Views.{slices_of, SameLoans, SameLengths};
 ghost use Rattle.aiger.specs.Answers.{literals_in};
 ghost use Rattle.aiger.specs.Circuit.{circuit_of};
 ghost use Rattle.endings.specs.Answers.{judged};
@@ -25,6 +25,7 @@ pub fn system(net: &Net, t: &mut Table<'_>) -> Result<Row, NoRoom>
     requires { Lent 0 (slices_of t.old) }
     ensures builds { Builds (made_of result t.new.count) (slices_of t.old) (slices_of t.new) net.now }
     ensures same { SameLoans t.old t.new }
+    ensures lengths { SameLengths t.old t.new }
 {
     let n = net.sizes.vars;
     t.count = 0;
@@ -47,6 +48,7 @@ fn judge_from(
     ensures ended { Ended (output_from n l.0 system.0) n (take (length pattern.old) (literals_in inputs.now)) (judged result) t.old.count
         (slices_of t.old) (slices_of t.new) pattern.old pattern.new }
     ensures same { SameLoans t.old t.new }
+    ensures same_length { length t.new.work.now ≡ length t.old.work.now }
 {
     let Ok(p) = literal(t, n, l) else {
         return Verdict::RoomOut; // none for the literal
@@ -68,6 +70,7 @@ pub fn judge(net: &Net, t: &mut Table<'_>, system: Row, o: usize, pattern: &mut 
         (slices_of t.old) (slices_of t.new) pattern.old pattern.new }
     ensures count { t.new.count ≡ t.old.count }
     ensures same { SameLoans t.old t.new }
+    ensures lengths { SameLengths t.old t.new }
 {
     let n = net.sizes.vars;
     let count = t.count;

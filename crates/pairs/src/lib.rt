@@ -4,11 +4,11 @@
 ghost use Rattle.std.specs.Prelude.{◌≡◌, ◌&&◌, length, replicate, OnErr};
 ghost use Rattle.std.specs.Bool.{xor};
 ghost use Rattle.steps.specs.Steps.{Steps};
-ghost use Rattle.table.specs.Answers.{answer_of};
+ghost use Rattle.table.specs.Answers.{answered_of};
 ghost use Rattle.table.specs.Calls.{in_use, left};
 ghost use Rattle.table.specs.Tables.{LiveIn};
 ghost use Rattle.table.specs.Views.{slices_of, SameLoans};
-ghost use Rattle.checks.specs.Steps.{Kept, StepsTo};
+ghost use Rattle.checks.specs.Steps.{StillLent, StepsTo};
 ghost use Rattle.pairs.specs.Calls.{pair_checked, pair_call, sum_call, product_call, Answered};
 ghost use Rattle.pairs.specs.Inner.{MayTake, Takes};
 
@@ -22,7 +22,7 @@ where
     requires may_take { MayTake n f g (F.pre written) }
     requires takes { (m : Steps) × Takes n f g (F.post written) m }
     ensures call { (m : Steps) → Takes n f g (F.post written) m
-        → pair_call n m t.old.count (slices_of t.old) f.0 g.0 ≡ left (answer_of result t.new.count) (slices_of t.new) }
+        → pair_call n m t.old.count (slices_of t.old) f.0 g.0 ≡ left (answered_of result t.new.count) (slices_of t.new) }
     ensures count { OnErr result (t.new.count ≡ t.old.count) }
     ensures same { SameLoans t.old t.new }
     ensures work_after { t.new.work.now ≡ replicate (length t.old.work.now) 0 }
@@ -31,7 +31,7 @@ where
         requires live { LiveIn n t.old }
         requires may_take { MayTake n f g (F.pre written) }
         requires takes { (m : Steps) × Takes n f g (F.post written) m }
-        ensures kept { Kept t.old t.new }
+        ensures kept { StillLent t.old t.new }
         ensures steps { (m : Steps) → Takes n f g (F.post written) m
             → StepsTo (pair_checked m t.old.count (slices_of t.old) f.0 g.0) result t.old t.new }
     {
@@ -46,7 +46,7 @@ where
 
 // The sum f + g.
 pub fn sum(n: usize, t: &mut Table<'_>, f: Row, g: Row) -> Result<Row, Refusal>
-    ensures answered { Answered xor (sum_call n t.old.count (slices_of t.old) f.0 g.0) (answer_of result t.new.count) t.old.count
+    ensures answered { Answered xor (sum_call n t.old.count (slices_of t.old) f.0 g.0) (answered_of result t.new.count) t.old.count
         (slices_of t.old) (slices_of t.new) f.0 g.0 }
     ensures count { OnErr result (t.new.count ≡ t.old.count) }
     ensures same { SameLoans t.old t.new }
@@ -57,7 +57,7 @@ pub fn sum(n: usize, t: &mut Table<'_>, f: Row, g: Row) -> Result<Row, Refusal>
 
 // The product f·g.
 pub fn product(n: usize, t: &mut Table<'_>, f: Row, g: Row) -> Result<Row, Refusal>
-    ensures answered { Answered ◌&&◌ (product_call n t.old.count (slices_of t.old) f.0 g.0) (answer_of result t.new.count) t.old.count
+    ensures answered { Answered ◌&&◌ (product_call n t.old.count (slices_of t.old) f.0 g.0) (answered_of result t.new.count) t.old.count
         (slices_of t.old) (slices_of t.new) f.0 g.0 }
     ensures count { OnErr result (t.new.count ≡ t.old.count) }
     ensures same { SameLoans t.old t.new }

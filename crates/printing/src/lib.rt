@@ -3,14 +3,11 @@
 
 mod line;
 
-ghost use Rattle.std.specs.Prelude.{◌≡◌, List, ℕ, length};
-ghost use Rattle.steps.specs.Table.{Slices};
-ghost use Rattle.table.specs.Lent.{room};
-ghost use Rattle.table.specs.Views.{slices_of, SameLoans};
-ghost use Rattle.aiger.specs.Net as net;
+ghost use Rattle.std.specs.Prelude.{◌≡◌, ◌<◌, length};
+ghost use Rattle.table.specs.Made.{made_of};
+ghost use Rattle.table.specs.Views.{slices_of, SameLoans, SameLengths};
 ghost use Rattle.aiger.specs.Circuit.{circuit_of};
-ghost use Rattle.verdicts.specs.Verdicts.{verdict_of, room_out};
-ghost use Rattle.outputs.specs.Inner.{Built, OutputOf};
+ghost use Rattle.outputs.specs.Inner.{BuiltIf};
 ghost use Rattle.printing.specs.Inner.{Prints, PrintsRefusal};
 
 pub use crate::line::Line;
@@ -18,24 +15,31 @@ use crate::line::{block, refused, verdict_alone};
 use aiger::net::Net;
 use aiger::refusal::Refusal;
 use outputs::judge;
-use table::{Row, Table};
+use table::{NoRoom, Row, Table};
 
-// The block of output o, from the system.
-pub fn print(net: &Net, t: &mut Table<'_>, system: Row, o: usize, pattern: &mut [u8]) -> Line
-    requires { OutputOf (slices_of t.old) net.now t.old.count system.0 o (length pattern.old) }
+// The block of output o, from the system or from the want of room for it.
+pub fn print(
+    net: &Net,
+    t: &mut Table<'_>,
+    made: Result<Row, NoRoom>,
+    o: usize,
+    pattern: &mut [u8],
+) -> Line
+    requires built { BuiltIf (made_of made t.old.count) (slices_of t.old) net.now }
+    requires there { o < net.now.sizes.outputs }
+    requires long { length pattern.old ≡ net.now.sizes.inputs }
     ensures prints { Prints (circuit_of net.now) (slices_of t.old) o pattern.old result.bytes }
-    ensures stands { Built (slices_of t.new) net.now t.new.count system.0 }
+    ensures stands { BuiltIf (made_of made t.new.count) (slices_of t.new) net.now }
     ensures same { SameLoans t.old t.new }
+    ensures lengths { SameLengths t.old t.new }
 {
-    let verdict = judge(net, t, system, o, pattern);
-    block(verdict, o, pattern)
-}
-
-// The block of output o where there is no room for the system.
-pub fn print_no_room(o: usize) -> Line
-    ensures { (circuit : net.Net) (s : Slices) (p : List ℕ) → verdict_of circuit (room s) o ≡ room_out → Prints circuit s o p result.bytes }
-{
-    verdict_alone(2, o)
+    match made {
+        Ok(system) => {
+            let verdict = judge(net, t, system, o, pattern);
+            block(verdict, o, pattern)
+        }
+        Err(NoRoom) => verdict_alone(2, o),
+    }
 }
 
 // The line of a refused text.

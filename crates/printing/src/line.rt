@@ -12,7 +12,7 @@ use endings::Verdict;
 // fail, and what is printed here never does.
 pub type Line = ArrayString<1040>;
 
-// A number of at most k digits and one. The library's printing of a number is another text from 10,000 on, which `print_no_room` takes too.
+// A number of at most k digits and one. The library's printing of a number is another text from 10,000 on, which the definition `decimal` speaks of too.
 #[tactic(auto, using(crate::proofs::Digits::decimals))]
 fn push_decimal(line: &mut Line, k: usize, n: usize)
     requires { array_string_len line.old + k < 1040 }
@@ -24,6 +24,7 @@ fn push_decimal(line: &mut Line, k: usize, n: usize)
     line.push(char::from(b'0' + (n % 10) as u8));
 }
 
+// The verdict, as the number that is printed, and the output.
 fn heading(verdict: u8, o: usize) -> Line
     requires { verdict < 3 }
     ensures { result.bytes ≡ text.heading verdict o }
@@ -36,12 +37,14 @@ fn heading(verdict: u8, o: usize) -> Line
     line
 }
 
+// An input's value.
 fn digit(value: u8) -> &'static str
     ensures { result.now ≡ text.digit value ∷ [] }
 {
     if value == 0 { "0" } else { "1" }
 }
 
+// The values of all inputs.
 fn push_digits(line: &mut Line, pattern: &[u8])
     requires { array_string_len line.old + length pattern.now ≤ 1040 }
     ensures { line.new.bytes ≡ line.old.bytes ++ map text.digit pattern.now }

@@ -11,7 +11,7 @@ use table::memory::{Operation, key, remember};
 use table::rows::Node;
 use table::{NoRoom, Row, Table};
 
-// The sum of the first two, and that plus the third.
+// The sum of the first two, and that plus the third. (`join` of the normal form begins with a product; one function for both would be longer than the two lines.)
 fn sum_three(t: &mut Table<'_>, n: u16, a: Row, b: Row, c: Row) -> Result<Row, NoRoom>
     requires { ThreeIn n t.old a.0 b.0 c.0 }
     ensures { KeptIn n (three_steps n a.0 b.0 c.0) result t.old t.new }

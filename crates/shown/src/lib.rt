@@ -4,7 +4,7 @@
 #![tactic(auto)]
 
 ghost use Rattle.std.specs.Prelude.{◌≡◌};
-ghost use Rattle.table.specs.Answers.{answer_of};
+ghost use Rattle.table.specs.Answers.{answered_of};
 ghost use Rattle.numbers.specs.Answers.{valued_of, sought_of};
 ghost use Rattle.aiger.specs.Answers.{answer_of_text};
 ghost use Rattle.endings.specs.Answers.{judged_of};
@@ -15,7 +15,7 @@ use table::{Refusal, Row};
 
 // A number, with the count of rows then in use.
 pub fn made(r: Result<Row, Refusal>, count: usize, row: &mut u16, used: &mut usize) -> u32
-    ensures { show_made (answer_of r count) (row.old, used.old) ≡ seen result (row.new, used.new) }
+    ensures { show_made (answered_of r count) (row.old, used.old) ≡ seen result (row.new, used.new) }
 {
     match r {
         Ok(k) => {

@@ -16,6 +16,7 @@ pub struct Parts {
     pub ge: Row,
 }
 
+// f and g, taken apart.
 pub fn split(rows: &Rows<'_>, n: u16, f: Row, g: Row) -> Parts
     requires { InUse rows.now.count (viewed rows.now) f.0 g.0 }
     ensures { Split n (shown rows.now) f.0 g.0 result.v.0 result.ft.0 result.gt.0 result.fe.0 result.ge.0 }

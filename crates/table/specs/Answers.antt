@@ -22,6 +22,6 @@ number_of_refusal RoomOut = 7
 number_of_refusal NotABit = 8
 
 -- the same of a result, with the count of rows in use after it
-abbrev pub answer_of : Result Row Refusal → ℕ → Answer
-answer_of (Ok k) n = Made k n
-answer_of (Err why) n = Refused (number_of_refusal why)
+abbrev pub answered_of : Result Row Refusal → ℕ → Answer
+answered_of (Ok k) n = Made k n
+answered_of (Err why) n = Refused (number_of_refusal why)

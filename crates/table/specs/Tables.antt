@@ -23,6 +23,7 @@ pub record EnteredIn (m : Steps) (r : Result Row NoRoom) (t t' : Table) : Type 0
 abbrev pub LiveIn : ℕ → Table → Type 0
 LiveIn N t = Live N t.count (slices_of t) t.work.now
 
+-- on Err nothing is said of the count: whoever ends the call puts back the one that it had
 pub record KeptIn (N : ℕ) (m : Steps) (r : Result Row NoRoom) (t t' : Table) : Type 0 where
   pub same : SameLoans t t'
   pub kept : Kept N m (made_of r t'.count) t.count (slices_of t) (slices_of t') t.work.now t'.work.now

@@ -1,6 +1,6 @@
 -- What the code's values stand for: a table as it is lent, and a view of its rows.
 -- Assumes nothing: these are definitions.
-use Rattle.std.specs.Prelude.{◌≡◌}
+use Rattle.std.specs.Prelude.{◌≡◌, length}
 use Rattle.steps.specs.Rows.{Row as Triple, Rows as Row-list, row_of}
 use Rattle.steps.specs.Table.{Slices, slices, rows_of}
 use Rattle.table.specs.declared.rows.Node.{Node}
@@ -26,6 +26,13 @@ shown r = rows_of (viewed r) r.count
 -- the slices of a lent table
 abbrev pub slices_of : Table → Slices
 slices_of t = slices t.vs.now t.ts.now t.es.now
+
+-- the slices are as long as before
+pub record SameLengths (t t' : Table) : Type 0 where
+  pub vs : length t'.vs.now ≡ length t.vs.now
+  pub ts : length t'.ts.now ≡ length t.ts.now
+  pub es : length t'.es.now ≡ length t.es.now
+  pub work : length t'.work.now ≡ length t.work.now
 
 -- the slices are still those that the caller lent
 pub record SameLoans (t t' : Table) : Type 0 where

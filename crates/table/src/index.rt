@@ -8,7 +8,7 @@ ghost use Rattle.table.specs.Views.{triple, viewed, shown};
 use crate::Row;
 use crate::rows::{Node, Rows};
 
-// A bucket of the index: its number, with the count of the index's words. No words are no index.
+// A bucket of the index: its number, with the count of the index's words. No words are no index, as in the definition `Belongs`.
 #[derive(Clone, Copy)]
 pub struct Bucket {
     pub words: usize,
@@ -75,6 +75,7 @@ fn older(work: &[u64], i: usize) -> usize
 fn search(rows: &Rows<'_>, x: Node) -> Option<Row>
     ensures { Finds result (shown rows.now) (triple x) }
 {
+    // the index is what is looked for
     for i in 0..rows.count {
         if rows.is(i, x) {
             return Some(Row((i + 2) as u16));

@@ -18,7 +18,7 @@ pub struct Row(pub u16);
 #[derive(Clone, Copy, PartialEq, Eq, PartialOrd, Ord)]
 pub struct Var(pub u16);
 
-// A table as a caller lends it: three slices of one length, for variable, then and else, with the count of rows in use, and the working slice. N is no part of it. What the
+// A table as a caller lends it: three slices of one length, for variable, then and else, with the count of rows in use, and the working slice. N is no part of it, as in the scope, whose calls take it beside the table. What the
 // inner functions ask of it (`LiveIn`) is no invariant of the type: it would have to hold after each single write, and Make changes row, index and count one after another.
 #[derive(Drop)]
 pub struct Table<'a> {
@@ -33,7 +33,7 @@ pub struct Table<'a> {
 #[derive(Clone, Copy)]
 pub struct NoRoom;
 
-// Why a call on a table is refused. The numbers are those that C sees.
+// Why a call on a table is refused. The numbers are those that C sees, so a cast gives them; the refusals of texts and circuits carry more, and convert by `From`.
 #[derive(Clone, Copy, PartialEq, Eq)]
 pub enum Refusal {
     // N, lengths or count out of range

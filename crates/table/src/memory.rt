@@ -64,7 +64,7 @@ fn word(m: usize, key: u64) -> usize
 
 impl Slot {
     // Where the result under the key stands, for a table of so many rows and a working slice of len words; where nothing is remembered, behind its end.
-    fn of(rows: usize, len: usize, key: u64) -> Slot
+    pub fn of(rows: usize, len: usize, key: u64) -> Slot
         ensures place { Place rows len result.at }
         ensures key { result.key ≡ key }
     {
@@ -76,7 +76,7 @@ impl Slot {
 }
 
 // The result that is remembered.
-fn recall(work: &[u64], slot: Slot) -> Option<Row>
+pub fn recall(work: &[u64], slot: Slot) -> Option<Row>
     ensures { Recalls result work.now slot.at slot.key }
 {
     let w = *work.get(slot.at)?;

@@ -22,7 +22,7 @@ pub struct View<'a> {
     pub count: usize,
 }
 
-// The first rows of a table whose lengths and count are in range, to be read.
+// The first rows of a table whose lengths and count are in range, to be read. It has the fields of a `View` itself, so that the fact about them can name them.
 #[derive(Clone, Copy)]
 pub struct Rows<'a> {
     pub vs: &'a [u16],

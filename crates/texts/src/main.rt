@@ -25,6 +25,7 @@ fn next_frame<R: Read>(from: &mut R) -> io::Result<Option<usize>> {
     Ok(None)
 }
 
+// Reads n bytes and drops them.
 fn skip<R: Read>(from: &mut R, n: usize) -> io::Result<()> {
     let mut buffer = [0u8; 4096];
     for _ in 0..n / 4096 {
@@ -34,6 +35,7 @@ fn skip<R: Read>(from: &mut R, n: usize) -> io::Result<()> {
     Ok(())
 }
 
+// The line of an answer.
 fn print(rt: &impl Print, answer: Result<(u16, u16), Refusal>) -> io::Result<()> {
     match answer {
         Ok((inputs, outputs)) => println!(rt; "{inputs} {outputs}"),
