@@ -12,12 +12,12 @@ from collections import Counter
 
 import blocks
 
-STEPS = {"make": "table::make::make", "sum": "sums::written::sum", "product": "products::written::product", "normal form": "reduction::normal_form"}
+STEPS = {"make": "table::Table::make", "sum": "sums::written::sum", "product": "products::written::product", "normal form": "reduction::normal_form"}
 # Where instructions are spent, by the starts of functions' names. What is in none of them is zeroing, by the C library.
 PARTS = {
     "reading": ("aiger::", "nets::"),
     "checking": "checks::check::",
-    "make": "table::make::",
+    "make": "table::Table::make",
     "remembering": "table::memory::",
     "sum": "sums::",
     "product": "products::",

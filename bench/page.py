@@ -121,7 +121,7 @@ SLOW = """\
   takes {checked:.1f} µs with {rows:,} rows in use.
 - **One output at a time.** `mg_circuit` reads the text and builds the equations of all gates again for every output. Of {many}, with {outputs} outputs,
   {reading:.0f} % of the instructions are the reading. The circuit program does both once for all outputs.
-- **Handing over.** A step is given four slices, two sizes and its numbers, and gives its answer in memory: the sum of 0 and 0
+- **Handing over.** A step is given a table of four slices and a count, N and its numbers, and gives its answer in memory: the sum of 0 and 0
   takes {trivial:.0f} instructions in the step alone, besides those of its caller. {ended:.0f} % of the operations above end at once or are remembered.
 """
 

@@ -1,7 +1,7 @@
 -- What a read, a net or a loop gave or begins with, said of its definition. The check finds these by itself where the code needs them. Assumes nothing.
 use Prim.Native.Nat.{ℕ, ◌+◌, ◌-◌, ◌/◌, ◌≤◌}
 use mathlib.Core.Path.{◌≡◌, sym, ap, ◌∙◌}
-use mathlib.Core.Bool.{Bool, true, ◌&&◌}
+use mathlib.Core.Bool.{Bool, true}
 use mathlib.Core.List.{List, []}
 use native.Mathlib.Omega.{arith}
 use lib.Dec.{leb}
@@ -13,8 +13,8 @@ use Rattle.aiger.specs.Form as form
 use Rattle.aiger.specs.Form.{read, digit, Gate, Header}
 use Rattle.aiger.specs.Net as net
 use Rattle.aiger.specs.Net.{Got, in_order, limits}
-use Rattle.aiger.specs.Answers.{Answer, Counted, Refused, answer_of, number_of_refusal, step_of, number_of, gate_of, header_of, lits_of, sizes_of}
-use Rattle.aiger.specs.Circuit.{circuit_of, net_of}
+use Rattle.aiger.specs.Answers.{Counted, Refused, answer_of, number_of_refusal, step_of, number_of, gate_of, header_of, lits_of, sizes_of}
+use Rattle.aiger.specs.Circuit.{net_of}
 use Rattle.aiger.specs.Marked.{Marks}
 use Rattle.aiger.specs.declared.numbers.Fault.{Fault}
 use Rattle.aiger.specs.declared.lines.Gate as lits
@@ -58,11 +58,11 @@ rights_asked p g marks e b m l = (l, rights_low p g e b m)
 pub passed_start : {M n : ℕ} {outs ls : List ℕ} → Passed M n outs 0 ls
 passed_start {n = n} = record { rest = let z : n + 0 ≡ n = omega arith in rw z }
 
-pub inputs_start : {s : List ℕ} {from M c : ℕ} {ins : List Lit} {marks : List Bool} → c ≤ length ins → Marks marks [] → InputsInv s from M c ins marks from 0
-inputs_start {c = c} h m = record { low = omega arith; room = h; marked = m; rest = let z : c - 0 ≡ c = omega arith in rw z }
+pub inputs_start : {s : List ℕ} {from M c : ℕ} {ins : List Lit} {marks : List Bool} → Marks marks [] → InputsInv s from M c ins marks from 0
+inputs_start {c = c} m = record { low = omega arith; marked = m; rest = let z : c - 0 ≡ c = omega arith in rw z }
 
-pub outputs_start : {s : List ℕ} {from n c : ℕ} {outs : List Lit} → c ≤ length outs → OutputsInv s from n c outs from 0
-outputs_start {c = c} h = record { low = omega arith; room = h; rest = let z : c - 0 ≡ c = omega arith in rw z }
+pub outputs_start : {s : List ℕ} {from n c : ℕ} {outs : List Lit} → OutputsInv s from n c outs from 0
+outputs_start {c = c} = record { low = omega arith; rest = let z : c - 0 ≡ c = omega arith in rw z }
 
 -- what the lines after a header ask
 

@@ -5,7 +5,7 @@ use mathlib.Core.Bool.{Bool, true, false}
 use mathlib.Core.List.{List, [], ◌∷◌, ◌++◌, map}
 use native.Mathlib.Numerals.{add-one}
 use native.Mathlib.Omega.{arith}
-use lib.ListN.{length, take, drop, set, length-set}
+use lib.ListN.{length, take, drop, set}
 use lib.Seq.{take-suc-set, length-take-le}
 use Rattle.std.proofs.Common.{Ok, Err}
 use Rattle.std.proofs.lemmas.List.{map-append, length-map}
@@ -51,14 +51,13 @@ module _ (M c k : ℕ) (ls t : List ℕ) where
 
 pub record InputsInv (s : List ℕ) (from M c : ℕ) (ins : List Lit) (marks : List Bool) (at k : ℕ) : Type 0 where
   pub low : k ≤ c
-  pub room : c ≤ length ins
   pub marked : Marks marks (literals_in (take k ins))
   pub rest : input_lines M c [] (drop from s) ≡ input_lines M (c - k) (literals_in (take k ins)) (drop at s)
 
-module _ {s : List ℕ} {from M c : ℕ} {ins : List Lit} {marks : List Bool} {at k : ℕ} (i : InputsInv s from M c ins marks at k) where
+module _ {s : List ℕ} {from M c : ℕ} {ins : List Lit} {marks : List Bool} {at k : ℕ} (i : InputsInv s from M c ins marks at k) (r : c ≤ length ins) where
   -- the line after those read so far
   inputs_line : on_line (2 + length (literals_in (take k ins))) number (drop at s) ≡ on_line (2 + k) number (drop at s)
-  inputs_line = rw (length_filled (λ (l : Lit). l.0) ins k (omega (arith, i.low, i.room)))
+  inputs_line = rw (length_filled (λ (l : Lit). l.0) ins k (omega (arith, i.low, r)))
 
   inputs_refused : {w : Refusal} → input_lines M (c - k) (literals_in (take k ins)) (drop at s) ≡ refused w → InputsRead s from M c marks (Err w)
   inputs_refused e = record { answer = sym (i.rest ∙ e); marked = λ x q. absurd (cc) }
@@ -69,15 +68,14 @@ module _ {s : List ℕ} {from M c : ℕ} {ins : List Lit} {marks : List Bool} {a
   pub inputs_defined : {l : ℕ} {u : List ℕ} → k < c → on_line (2 + k) number (drop at s) ≡ got l u → fresh M (literals_in (take k ins)) l ≡ false
       → InputsRead s from M c marks (Err (Literal (2 + k)))
   inputs_defined h e f =
-      inputs_refused (inputs_used M c k (literals_in (take k ins)) (drop at s) h (inputs_line ∙ e) f ∙ rw (length_filled (λ (l : Lit). l.0) ins k (omega (arith, i.room))))
+      inputs_refused (inputs_used M c k (literals_in (take k ins)) (drop at s) h (inputs_line ∙ e) f ∙ rw (length_filled (λ (l : Lit). l.0) ins k (omega (arith, r))))
 
   pub inputs_next : {l : Lit} {p : ℕ} {marks' : List Bool} → k < c → on_line (2 + k) number (drop at s) ≡ got l.0 (drop p s) → fresh M (literals_in (take k ins)) l.0 ≡ true
       → Marks marks' (literals_in (take k ins) ++ l.0 ∷ []) → InputsInv s from M c (set ins k l) marks' p (k + 1)
   inputs_next {l} {p} h e f m =
-      let t : literals_in (take (k + 1) (set ins k l)) ≡ literals_in (take k ins) ++ l.0 ∷ [] = filled_more (λ (x : Lit). x.0) ins k l (omega (arith, i.room)) in
+      let t : literals_in (take (k + 1) (set ins k l)) ≡ literals_in (take k ins) ++ l.0 ∷ [] = filled_more (λ (x : Lit). x.0) ins k l (omega (arith, r)) in
       record {
         low = omega arith;
-        room = rw length-set i.room;
         marked = rw t m;
         rest = rw t (i.rest ∙ inputs_on M c k (literals_in (take k ins)) (drop at s) h (inputs_line ∙ e) f);
       }
@@ -109,22 +107,20 @@ module _ (n c k : ℕ) (ls t : List ℕ) where
 
 pub record OutputsInv (s : List ℕ) (from n c : ℕ) (outs : List Lit) (at k : ℕ) : Type 0 where
   pub low : k ≤ c
-  pub room : c ≤ length outs
   pub rest : output_lines n c [] (drop from s) ≡ output_lines n (c - k) (literals_in (take k outs)) (drop at s)
 
-module _ {s : List ℕ} {from n c : ℕ} {outs : List Lit} {at k : ℕ} (i : OutputsInv s from n c outs at k) where
+module _ {s : List ℕ} {from n c : ℕ} {outs : List Lit} {at k : ℕ} (i : OutputsInv s from n c outs at k) (r : c ≤ length outs) where
   outputs_line : on_line (n + length (literals_in (take k outs))) number (drop at s) ≡ on_line (n + k) number (drop at s)
-  outputs_line = rw (length_filled (λ (l : Lit). l.0) outs k (omega (arith, i.low, i.room)))
+  outputs_line = rw (length_filled (λ (l : Lit). l.0) outs k (omega (arith, i.low, r)))
 
   pub outputs_stop : {w : Refusal} → k < c → on_line (n + k) number (drop at s) ≡ refused w → refused w ≡ output_lines n c [] (drop from s)
   outputs_stop h e = sym (i.rest ∙ outputs_bad n c k (literals_in (take k outs)) (drop at s) h (outputs_line ∙ e))
 
   pub outputs_next : {l : Lit} {p : ℕ} → k < c → on_line (n + k) number (drop at s) ≡ got l.0 (drop p s) → OutputsInv s from n c (set outs k l) p (k + 1)
   outputs_next {l} {p} h e =
-      let t : literals_in (take (k + 1) (set outs k l)) ≡ literals_in (take k outs) ++ l.0 ∷ [] = filled_more (λ (x : Lit). x.0) outs k l (omega (arith, i.room)) in
+      let t : literals_in (take (k + 1) (set outs k l)) ≡ literals_in (take k outs) ++ l.0 ∷ [] = filled_more (λ (x : Lit). x.0) outs k l (omega (arith, r)) in
       record {
         low = omega arith;
-        room = rw length-set i.room;
         rest = rw t (i.rest ∙ outputs_on n c k (literals_in (take k outs)) (drop at s) h (outputs_line ∙ e));
       }
 

@@ -6,7 +6,7 @@ ghost use Rattle.aiger.specs.Answers.{number_of, gate_of};
 use crate::numbers::{Fault, byte, space};
 use crate::reader::number_at;
 
-// A circuit's literal: 2v is variable v, 2v+1 its inverse; 0 and 1 are constants.
+// A circuit's literal: 2v is variable v, 2v+1 its inverse; 0 and 1 are constants. The scope names it as a struct of one field.
 #[derive(Clone, Copy, Debug, PartialEq, Eq, PartialOrd, Ord)]
 pub struct Lit(pub u16);
 

@@ -18,6 +18,7 @@ pub struct Net {
     pub ghost accepted: { Accepted (net_in sizes input_places output_places gate_places) } by { Accepted-prop (net_in sizes input_places output_places gate_places) },
 }
 
+// Three accessors of one shape: each is held to a definition of its own.
 impl Net {
     ghost use Rattle.std.specs.Prelude.{length};
     ghost use Rattle.aiger.specs.Answers.{literals_in, gates_in};

@@ -41,6 +41,7 @@ fn row_values(rows: &Rows<'_>, upto: usize, bytes: &[u8], values: &mut [u8])
     requires long { length values.old ≡ 8192 }
     ensures { Evaluated rows.now.count upto (viewed rows.now) bytes.now values.new }
 {
+    // by index, at which the row is read and its value written
     for i in 0..upto {
         values[i] = row_value(rows, i, bytes, values);
     }
@@ -56,6 +57,7 @@ pub fn value_at(rows: &Rows<'_>, bytes: &[u8], f: Row) -> bool
     if f.0 < 2 {
         return f.0 == 1;
     }
+    // a place for every row that a table can hold: the project uses no heap
     let mut values = [0u8; 8192];
     let i = f.0 as usize - 2;
     row_values(rows, i + 1, bytes, &mut values);

@@ -66,6 +66,7 @@ fn rows_sound(rows: &Rows<'_>, n: u16, work: &mut [u64]) -> bool
     ensures { SoundChecked result n rows.now.count (viewed rows.now) work.new }
 {
     let words = index_words(rows.vs.len(), work.len());
+    // by index, at which the row is read and entered
     for i in 0..rows.count {
         let x = rows.node(i);
         let b = Bucket::of(words, x);

@@ -1,4 +1,4 @@
-// The circuit call: a text becomes a net, the net's gates a system in the lent table, and one output is judged by it.
+// The circuit call: a text becomes a net, the net's gates a system in the lent table, and one output is judged by it. Each clause of a call is one fact.
 #![tactic(auto)]
 
 mod output;

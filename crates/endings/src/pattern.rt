@@ -15,6 +15,7 @@ pub fn write_pattern(rows: &Rows<'_>, n: u16, k: Row, inputs: &[Lit], pattern: &
     requires { PatternAsked n rows.now.count (viewed rows.now) k.0 (literals_in inputs.now) (length pattern.old) }
     ensures { pattern.new ≡ bytes_at n (one (shown rows.now) k.0) (take (length pattern.old) (literals_in inputs.now)) }
 {
+    // a place for every variable: the project uses no heap
     let mut ones = [0u8; 1024];
     one_of(rows, k, &mut ones);
     // one index for both slices: `zip` would lend the pattern, of which the invariant speaks

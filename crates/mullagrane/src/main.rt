@@ -33,6 +33,7 @@ fn print_all(
 
 // The verdicts of an accepted net.
 fn judge_net(rt: &impl Print, net: &Net) -> io::Result<()> {
+    // fixed memory: the project uses no heap
     let mut t = Table {
         vs: &mut [0; 4096],
         ts: &mut [0; 4096],

@@ -1,4 +1,5 @@
-// The lines after the header. A mark is kept for each variable that is defined.
+// The lines after the header. A mark is kept for each variable that is defined. Each loop counts k, which is the place in the array and tells the line. The arrays hold any net: the project
+// uses no heap. Text and position stand apart as in aiger's numbers.rt.
 ghost use Rattle.std.specs.Prelude.{◌≡◌, ◌≤◌, true, List, [], drop, ℕ, length};
 ghost use Rattle.aiger.specs.Form as form;
 ghost use Rattle.aiger.specs.Net as net;

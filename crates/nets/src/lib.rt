@@ -22,6 +22,7 @@ pub fn read_net(s: &[u8]) -> Result<(Net, usize), Refusal>
     if 32768 < s.len() {
         return Err(Refusal::TooLong);
     }
+    // a fault becomes a refusal in the form that the scope names
     let line = line_of_header(s, 0);
     let Ok((sizes, end)) = line else {
         return Err(Refusal::Form(line.unwrap_err(), 1));

@@ -1,4 +1,4 @@
-// The calls equation and normal form.
+// The calls equation and normal form. Each clause of a call is one fact.
 #![tactic(auto)]
 
 ghost use Rattle.std.specs.Prelude.{◌≡◌, ◌<◌, ◌+◌, length, replicate, OnErr};

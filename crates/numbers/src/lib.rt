@@ -1,4 +1,4 @@
-// The public calls on a table that need no arithmetic: the variable x_v, the value of a number at an assignment, and a one of it.
+// The public calls on a table that need no arithmetic: the variable x_v, the value of a number at an assignment, and a one of it. Each clause of a call is one fact.
 #![tactic(auto)]
 
 ghost use Rattle.std.specs.Prelude.{◌≡◌, length, replicate, OnErr};

@@ -1,4 +1,4 @@
-// The calls sum and product. They differ in the written steps that are taken, and in nothing else.
+// The calls sum and product. They differ in the written steps that are taken, and in nothing else. Each clause of a call is one fact.
 #![tactic(auto)]
 
 ghost use Rattle.std.specs.Prelude.{◌≡◌, ◌&&◌, length, replicate, OnErr};

@@ -1,4 +1,4 @@
--- WHAT A PRINTED VERDICT STANDS FOR. The hypothesis `Prints` is what `print` and `print_no_room` in src/lib.rt promise, for an output o of the net that the text gives; the line is
+-- WHAT A PRINTED VERDICT STANDS FOR. The hypothesis `Prints` is what `print` in src/lib.rt promises, for an output o of the net that the text gives; the line is
 -- what is printed. The bytes 48, 49 and 50 are `0`, `1` and `2`.
 -- Assumes nothing.
 use Prim.Native.Nat.{ℕ, ◌<◌}

@@ -30,6 +30,7 @@ pub fn print(
     requires long { length pattern.old ≡ net.now.sizes.inputs }
     ensures prints { Prints (circuit_of net.now) (slices_of t.old) o pattern.old result.bytes }
     ensures stands { BuiltIf (made_of made t.new.count) (slices_of t.new) net.now }
+    ensures count { t.new.count ≡ t.old.count }
     ensures same { SameLoans t.old t.new }
     ensures lengths { SameLengths t.old t.new }
 {

@@ -24,7 +24,7 @@ fn push_decimal(line: &mut Line, k: usize, n: usize)
     line.push(char::from(b'0' + (n % 10) as u8));
 }
 
-// The verdict, as the number that is printed, and the output.
+// The verdict, as the number that is printed (`heading` in specs/Text.antt takes it so), and the output.
 fn heading(verdict: u8, o: usize) -> Line
     requires { verdict < 3 }
     ensures { result.bytes ≡ text.heading verdict o }

@@ -41,6 +41,7 @@ pub fn product(t: &mut Table<'_>, n: u16, f: Row, g: Row) -> Result<Row, NoRoom>
     if f == g {
         return Ok(f);
     }
+    // like the sum, where it is said why this is no function of its own
     let slot = t.slot(key(Operation::Product, f, g));
     if let Some(k) = t.recall(slot) {
         return Ok(k);

@@ -15,7 +15,7 @@ use table::memory::{Operation, key, remember};
 use table::rows::Node;
 use table::{NoRoom, Row, Table};
 
-// The product of the first two, and that plus the third.
+// The product of the first two, and that plus the third. (`sum_three` of products begins with a sum; one function for both would be longer than the two lines.)
 fn join(t: &mut Table<'_>, n: u16, a: Row, b: Row, c: Row) -> Result<Row, NoRoom>
     requires { ThreeIn n t.old a.0 b.0 c.0 }
     ensures { KeptIn n (join_steps n a.0 b.0 c.0) result t.old t.new }
@@ -38,6 +38,7 @@ fn normal_form(t: &mut Table<'_>, n: u16, p: Row, f: Row) -> Result<Row, NoRoom>
     if g.0 == 1 {
         return Ok(p);
     }
+    // like the sum, where it is said why this is no function of its own
     let slot = t.slot(key(Operation::NormalForm, p, g));
     if let Some(k) = t.recall(slot) {
         return Ok(k);

@@ -55,7 +55,7 @@ impl Bucket {
     }
 }
 
-// The newest row of the bucket b, 0 for none.
+// The newest row of the bucket b, 0 for none: the words and `newest_in` hold it so.
 fn head(work: &[u64], b: usize) -> usize
     requires { b < length work.now }
     ensures { get_or work.now b 0 / 65536 ≡ result }
@@ -63,7 +63,7 @@ fn head(work: &[u64], b: usize) -> usize
     (work[b] / 65536) as usize
 }
 
-// The newest row before row i in its bucket, 0 for none.
+// The newest row before row i in its bucket, 0 for none as above.
 fn older(work: &[u64], i: usize) -> usize
     requires { i < length work.now }
     ensures { get_or work.now i 0 % 65536 ≡ result }

@@ -63,7 +63,7 @@ fn word(m: usize, key: u64) -> usize
 }
 
 impl Slot {
-    // Where the result under the key stands, for a table of so many rows and a working slice of len words; where nothing is remembered, behind its end.
+    // Where the result under the key stands, for a table of so many rows and a working slice of len words; where nothing is remembered, behind its end, as `Place` says.
     pub fn of(rows: usize, len: usize, key: u64) -> Slot
         ensures place { Place rows len result.at }
         ensures key { result.key ≡ key }

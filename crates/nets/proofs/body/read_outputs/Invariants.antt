@@ -1,6 +1,11 @@
--- The first k literals are read, and the rest of the lines is left.
+-- The first k literals are read, there is room for all, and the rest of the lines is left.
+use Prim.Native.Nat.{◌≤◌}
+use lib.ListN.{length}
 use Rattle.aiger.proofs.LiteralLines.{OutputsInv}
 use Rattle.nets.proofs.body.read_outputs.Given as goal
 
 abbrev pub invariant-loop-k : goal.invariant-loop-k
-invariant-loop-k l = OutputsInv l.s l.from l.n l.count l.outputs l.at l.k
+invariant-loop-k l = record {
+  room : l.count ≤ length l.outputs;
+  lines : OutputsInv l.s l.from l.n l.count l.outputs l.at l.k;
+}
