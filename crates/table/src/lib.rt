@@ -18,8 +18,9 @@ pub struct Row(pub u16);
 #[derive(Clone, Copy, PartialEq, Eq, PartialOrd, Ord)]
 pub struct Var(pub u16);
 
-// A table as a caller lends it (the scope's calls take just these slices): three slices of one length, for variable, then and else, with the count of rows in use, and the working slice. N is no part of it, as in the scope, whose calls take it beside the table. What the
-// inner functions ask of it (`LiveIn`) is no invariant of the type: it would have to hold after each single write, and Make changes row, index and count one after another.
+// A table as a caller lends it (the scope's calls take just these slices): three slices of one length, for variable, then and else, with the count of rows in use, and the working slice.
+// N is no part of it, as in the scope, whose calls take it beside the table. What the inner functions ask of it (`LiveIn`) is no invariant of the type: it would have to hold after each
+// single write, and Make changes row, index and count one after another.
 #[derive(Drop)]
 pub struct Table<'a> {
     pub vs: &'a mut [u16],
