@@ -79,12 +79,12 @@ module _ (h : Header) (small : limits h ≡ true) where
 -- the text call's answer
 
 module _ (s : List ℕ) {r : Result (Net × ℕ) Refusal} {d : Got net.Net} (e : net_of s r ≡ d) where
-  pub answer_counted : {n : Net} {p : ℕ} → r ≡ Ok (n, p) → 1024 ≤ length n.input_places → 1024 ≤ length n.output_places → Counted n.sizes.inputs n.sizes.outputs ≡ answer_of d
+  pub answer_counted : {n : Net} {p : ℕ} → r ≡ Ok (n, p) → 1024 ≤ length n.input_places.now → 1024 ≤ length n.output_places.now → Counted n.sizes.inputs n.sizes.outputs ≡ answer_of d
   answer_counted {n} {p} t i o =
       let w = within (sizes_of n.sizes) n.small in
       let q : answer_of (net_of s (Ok (n, p))) ≡ Counted n.sizes.inputs n.sizes.outputs = rw (
-        length_filled (λ (l : Lit). l.0) n.input_places n.sizes.inputs (omega (arith, w.vars, w.sum)),
-        length_filled (λ (l : Lit). l.0) n.output_places n.sizes.outputs (omega (arith, w.outs)),
+        length_filled (λ (l : Lit). l.0) n.input_places.now n.sizes.inputs (omega (arith, w.vars, w.sum)),
+        length_filled (λ (l : Lit). l.0) n.output_places.now n.sizes.outputs (omega (arith, w.outs)),
       ) in
       sym q ∙ ap (λ (x : Result (Net × ℕ) Refusal). answer_of (net_of s x)) (sym t) ∙ ap answer_of e
 
