@@ -1,19 +1,40 @@
 // The program: reads an AIGER text from standard input and prints a verdict for every output, in a table of 4,096 rows. The system is built once.
 #![tactic(auto)]
 
-ghost use Rattle.std.specs.Prelude.{length};
+ghost use Rattle.std.specs.Prelude.{◌<◌, length};
 ghost use Rattle.table.specs.Made.{made_of};
 ghost use Rattle.table.specs.Views.{slices_of};
+ghost use Rattle.aiger.specs.Circuit.{circuit_of};
+ghost use Rattle.printing.specs.Inner.{Prints};
 ghost use Rattle.mullagrane.specs.Inner.{Ready};
 
 use aiger::net::{Net, Places};
 use nets::read_net;
 use outputs::system;
-use printing::{print, print_refusal};
+use printing::{Line, print, print_refusal};
 use reading::read_full;
 use std::io;
 use std::io::Write;
 use table::{NoRoom, Row, Table};
+
+// The line of output o of this net.
+fn line_of(
+    net: &Net<'_>,
+    t: &mut Table<'_>,
+    made: Result<Row, NoRoom>,
+    o: usize,
+    pattern: &mut [u8],
+) -> Line
+    requires ready { Ready (made_of made t.old.count) (slices_of t.old) net.now (length pattern.old) }
+    requires there { o < net.now.sizes.outputs }
+    ensures prints { Prints (circuit_of net.now) (slices_of t.old) o pattern.old result.bytes }
+    ensures ready { Ready (made_of made t.new.count) (slices_of t.new) net.now (length pattern.new) }
+{
+    match made {
+        Ok(system) => print(t, Ok((net, system)), o, pattern),
+        Err(NoRoom) => print(t, Err(NoRoom), o, pattern),
+    }
+}
 
 // Each output from the system's rows, which stay, or from the want of room for it. A standard output that fails ends it.
 fn print_all(
@@ -26,7 +47,7 @@ fn print_all(
     requires { Ready (made_of made t.old.count) (slices_of t.old) net.now (length pattern.old) }
 {
     for o in 0..net.sizes.outputs as usize {
-        let line = print(t, made.map(|system| (net, system)), o, pattern);
+        let line = line_of(net, t, made, o, pattern);
         io::writer(rt).write_all(line.as_bytes())?;
     }
     Ok(())

@@ -26,10 +26,10 @@ pub fn print(
     pattern: &mut [u8],
 ) -> Line
     requires output { IfOk made (λ m. OutputOf (slices_of t.old) m.0.now t.old.count m.1.0 o (length pattern.old)) }
-    ensures prints { IfOk made (λ m. Prints (circuit_of m.0.now) (slices_of t.old) o pattern.old result.bytes) }
-    ensures prints_full { OnErr made ((c : net.Net) → NoneFits c (slices_of t.old) → Prints c (slices_of t.old) o pattern.old result.bytes) }
-    ensures stands { IfOk made (λ m. Built (slices_of t.new) m.0.now t.new.count m.1.0) }
-    ensures stands_full { OnErr made ((c : net.Net) → NoneFits c (slices_of t.old) → NoneFits c (slices_of t.new)) }
+    ensures prints { IfOk made.entry (λ m. Prints (circuit_of m.0.now) (slices_of t.old) o pattern.old result.bytes) }
+    ensures prints_full { OnErr made.entry ((c : net.Net) → NoneFits c (slices_of t.old) → Prints c (slices_of t.old) o pattern.old result.bytes) }
+    ensures stands { IfOk made.entry (λ m. Built (slices_of t.new) m.0.now t.new.count m.1.0) }
+    ensures stands_full { OnErr made.entry ((c : net.Net) → NoneFits c (slices_of t.old) → NoneFits c (slices_of t.new)) }
     ensures count { t.new.count ≡ t.old.count }
     ensures same { SameLoans t.old t.new }
     ensures lengths { SameLengths t.old t.new }
