@@ -18,7 +18,7 @@ use table::Row;
 pub trait HasNumber: Drop {
     ghost number: { Self → ℕ };
 
-    fn number(&self) -> u16
+    fn number(&self) -> u32
         ensures { result ≡ number self.now };
 }
 
@@ -26,32 +26,32 @@ pub trait HasNumber: Drop {
 impl HasNumber for u16 {
     ghost number = { λ n. n };
 
-    fn number(&self) -> u16 {
-        *self
+    fn number(&self) -> u32 {
+        u32::from(*self)
     }
 }
 
 impl HasNumber for table::Refusal {
     ghost number = { table.number_of_refusal };
 
-    fn number(&self) -> u16 {
-        *self as u16
+    fn number(&self) -> u32 {
+        *self as u32
     }
 }
 
 impl HasNumber for aiger::refusal::Refusal {
     ghost number = { text.number_of_refusal };
 
-    fn number(&self) -> u16 {
-        u16::from(*self)
+    fn number(&self) -> u32 {
+        u16::from(*self).into()
     }
 }
 
 impl HasNumber for endings::Refusal {
     ghost number = { circuit.number_of_refusal };
 
-    fn number(&self) -> u16 {
-        u16::from(*self)
+    fn number(&self) -> u32 {
+        u16::from(*self).into()
     }
 }
 
@@ -65,7 +65,7 @@ pub fn made<W: HasNumber>(r: Result<Row, W>, count: usize, row: &mut u16, used: 
             *used = count;
             0
         }
-        Err(why) => why.number().into(),
+        Err(why) => why.number(),
     }
 }
 
@@ -78,7 +78,7 @@ pub fn value<W: HasNumber>(r: Result<bool, W>, out: &mut u8) -> u32
             *out = b.into();
             0
         }
-        Err(why) => why.number().into(),
+        Err(why) => why.number(),
     }
 }
 
@@ -88,7 +88,7 @@ pub fn one<W: HasNumber>(r: Result<(), W>) -> u32
 {
     match r {
         Ok(()) => 0,
-        Err(why) => why.number().into(),
+        Err(why) => why.number(),
     }
 }
 
@@ -111,7 +111,7 @@ pub fn verdict<W: HasNumber>(r: Result<Verdict, W>, out: &mut u32, rows: &mut us
             *out = 2;
             0
         }
-        Err(why) => why.number().into(),
+        Err(why) => why.number(),
     }
 }
 
@@ -129,6 +129,6 @@ pub fn counts<W: HasNumber>(
             *outputs = o.into();
             0
         }
-        Err(why) => why.number().into(),
+        Err(why) => why.number(),
     }
 }
