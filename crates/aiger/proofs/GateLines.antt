@@ -58,13 +58,14 @@ pub record GatesFor (s : List ℕ) (from M n c : ℕ) (gs : List lines.Gate) (ma
   pub marked : Marks marks (ls ++ lefts (gates_in (take k gs)))
   pub rest : gate_lines M n ls 0 c [] (drop from s) ≡ gate_lines M n ls p (c - k) (gates_in (take k gs)) (drop at s)
 
-pub record GatesInv (s : List ℕ) (from M n c : ℕ) (gs : List lines.Gate) (marks0 marks : List Bool) (at k p : ℕ) : Type 0 where
+pub record GatesInv (s : List ℕ) (from M n c : ℕ) (gs0 gs : List lines.Gate) (marks0 marks : List Bool) (at k p : ℕ) : Type 0 where
   pub low : k ≤ c
+  pub same : length gs ≡ length gs0
   pub room : c ≤ length gs
   pub each : (ls : List ℕ) → Marks marks0 ls → GatesFor s from M n c gs marks at k p ls
 
-module _ {s : List ℕ} {from M n c : ℕ} {gs : List lines.Gate} {marks0 marks : List Bool} {at k p : ℕ}
-    (i : GatesInv s from M n c gs marks0 marks at k p) where
+module _ {s : List ℕ} {from M n c : ℕ} {gs0 gs : List lines.Gate} {marks0 marks : List Bool} {at k p : ℕ}
+    (i : GatesInv s from M n c gs0 gs marks0 marks at k p) where
   abbrev read_so_far : List Gate
   read_so_far = gates_in (take k gs)
 
@@ -103,11 +104,12 @@ module _ {s : List ℕ} {from M n c : ℕ} {gs : List lines.Gate} {marks0 marks 
   pub gates_next : k < c → {g : lines.Gate} {q : ℕ} {marks' : List Bool} → on_line (n + k) gate (drop at s) ≡ got (lits_of g) (drop q s)
       → ((ls : List ℕ) → Marks marks ls → fresh M ls g.left.0 ≡ true) → in_order p (lits_of g) ≡ true → ((ls : List ℕ) → Marks marks ls → rights_defined ls (lits_of g) ≡ true)
       → ((ls : List ℕ) → Marks marks ls → Marks marks' (ls ++ g.left.0 ∷ []))
-      → GatesInv s from M n c (set gs k g) marks0 marks' q (k + 1) g.left.0
+      → GatesInv s from M n c gs0 (set gs k g) marks0 marks' q (k + 1) g.left.0
   gates_next h {g} {q} e f o d b =
       let t : gates_in (take (k + 1) (set gs k g)) ≡ read_so_far ++ lits_of g ∷ [] = filled_more lits_of gs k g (omega (arith, i.room)) in
       record {
         low = omega arith;
+        same = rw length-set i.same;
         room = rw length-set i.room;
         each = λ ls m.
             let j = i.each ls m in

@@ -1,6 +1,6 @@
 -- What a read, a net or a loop gave or begins with, said of its definition. The check finds these by itself where the code needs them. Assumes nothing.
 use Prim.Native.Nat.{ℕ, ◌+◌, ◌-◌, ◌/◌, ◌≤◌}
-use mathlib.Core.Path.{◌≡◌, sym, ap, ◌∙◌}
+use mathlib.Core.Path.{◌≡◌, refl, sym, ap, ◌∙◌}
 use mathlib.Core.Bool.{Bool, true}
 use mathlib.Core.List.{List, []}
 use native.Mathlib.Omega.{arith}
@@ -58,33 +58,37 @@ rights_asked p g marks e b m l = (l, rights_low p g e b m)
 pub passed_start : {M n : ℕ} {outs ls : List ℕ} → Passed M n outs 0 ls
 passed_start {n = n} = record { rest = let z : n + 0 ≡ n = omega arith in rw z }
 
-pub inputs_start : {s : List ℕ} {from M c : ℕ} {ins : List Lit} {marks : List Bool} → Marks marks [] → InputsInv s from M c ins marks from 0
-inputs_start {c = c} m = record { low = omega arith; marked = m; rest = let z : c - 0 ≡ c = omega arith in rw z }
+pub inputs_start : {s : List ℕ} {from M c : ℕ} {ins : List Lit} {marks : List Bool} → Marks marks [] → InputsInv s from M c ins ins marks from 0
+inputs_start {c = c} m = record { low = omega arith; same = refl; marked = m; rest = let z : c - 0 ≡ c = omega arith in rw z }
 
-pub outputs_start : {s : List ℕ} {from n c : ℕ} {outs : List Lit} → OutputsInv s from n c outs from 0
-outputs_start {c = c} = record { low = omega arith; rest = let z : c - 0 ≡ c = omega arith in rw z }
+pub outputs_start : {s : List ℕ} {from n c : ℕ} {outs : List Lit} → OutputsInv s from n c outs outs from 0
+outputs_start {c = c} = record { low = omega arith; same = refl; rest = let z : c - 0 ≡ c = omega arith in rw z }
 
--- what the lines after a header ask
+-- what the lines after a header ask, of the arrays of 1,024 places and of the 1,025 marks too
 
 module _ (h : Header) (small : limits h ≡ true) where
-  pub body_outputs : (h.I + 2 ≤ 4096) × (h.O ≤ 1024)
-  body_outputs = let w = within h small in (omega (arith, w.vars, w.sum), w.outs)
+  pub body_outputs : (outs : List Lit) → 1024 ≤ length outs → (h.I + 2 ≤ 4096) × (h.O ≤ 1024) × (h.O ≤ length outs)
+  body_outputs outs long = let w = within h small in (omega (arith, w.vars, w.sum), w.outs, omega (arith, w.outs, long))
 
-  pub body_gates : (h.M ≤ 1024) × ((h.I + h.O + 2 ≤ 4096) × (h.A ≤ 1024))
-  body_gates = let w = within h small in (w.vars, (omega (arith, w.vars, w.sum, w.outs), omega (arith, w.vars, w.sum)))
+  pub body_gates : (gates : List lits.Gate) (marks : List Bool) → 1024 ≤ length gates → length marks ≡ 1025
+      → (h.M ≤ 1024) × (h.I + h.O + 2 ≤ 4096) × (h.A ≤ 1024) × (h.A ≤ length gates) × (length marks ≡ 1025)
+  body_gates gates marks long l =
+      let w = within h small in
+      (w.vars, omega (arith, w.vars, w.sum, w.outs), omega (arith, w.vars, w.sum), omega (arith, w.vars, w.sum, long), l)
 
-  pub body_known : (h.M ≤ 1024) × ((h.I ≤ 1024) × (h.O ≤ 1024))
-  body_known = let w = within h small in (w.vars, (omega (arith, w.vars, w.sum), w.outs))
+  pub body_known : (outs : List Lit) (marks : List Bool) → 1024 ≤ length outs → length marks ≡ 1025
+      → (h.M ≤ 1024) × (h.I ≤ 1024) × (h.O ≤ 1024) × (h.O ≤ length outs) × (length marks ≡ 1025)
+  body_known outs marks long l = let w = within h small in (w.vars, omega (arith, w.vars, w.sum), w.outs, omega (arith, w.outs, long), l)
 
 -- the text call's answer
 
 module _ (s : List ℕ) {r : Result (Net × ℕ) Refusal} {d : Got net.Net} (e : net_of s r ≡ d) where
-  pub answer_counted : {n : Net} {p : ℕ} → r ≡ Ok (n, p) → 1024 ≤ length n.input_places → 1024 ≤ length n.output_places → Counted n.sizes.inputs n.sizes.outputs ≡ answer_of d
+  pub answer_counted : {n : Net} {p : ℕ} → r ≡ Ok (n, p) → 1024 ≤ length n.input_places.now → 1024 ≤ length n.output_places.now → Counted n.sizes.inputs n.sizes.outputs ≡ answer_of d
   answer_counted {n} {p} t i o =
       let w = within (sizes_of n.sizes) n.small in
       let q : answer_of (net_of s (Ok (n, p))) ≡ Counted n.sizes.inputs n.sizes.outputs = rw (
-        length_filled (λ (l : Lit). l.0) n.input_places n.sizes.inputs (omega (arith, w.vars, w.sum)),
-        length_filled (λ (l : Lit). l.0) n.output_places n.sizes.outputs (omega (arith, w.outs)),
+        length_filled (λ (l : Lit). l.0) n.input_places.now n.sizes.inputs (omega (arith, w.vars, w.sum)),
+        length_filled (λ (l : Lit). l.0) n.output_places.now n.sizes.outputs (omega (arith, w.outs)),
       ) in
       sym q ∙ ap (λ (x : Result (Net × ℕ) Refusal). answer_of (net_of s x)) (sym t) ∙ ap answer_of e
 

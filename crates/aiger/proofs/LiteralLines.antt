@@ -5,7 +5,7 @@ use mathlib.Core.Bool.{Bool, true, false}
 use mathlib.Core.List.{List, [], ◌∷◌, ◌++◌, map}
 use native.Mathlib.Numerals.{add-one}
 use native.Mathlib.Omega.{arith}
-use lib.ListN.{length, take, drop, set}
+use lib.ListN.{length, take, drop, set, length-set}
 use lib.Seq.{take-suc-set, length-take-le}
 use Rattle.std.proofs.Common.{Ok, Err}
 use Rattle.std.proofs.lemmas.List.{map-append, length-map}
@@ -49,12 +49,13 @@ module _ (M c k : ℕ) (ls t : List ℕ) where
       unfolding input_lines
       inputs_on f = rw (less c k h, e, f)
 
-pub record InputsInv (s : List ℕ) (from M c : ℕ) (ins : List Lit) (marks : List Bool) (at k : ℕ) : Type 0 where
+pub record InputsInv (s : List ℕ) (from M c : ℕ) (ins0 ins : List Lit) (marks : List Bool) (at k : ℕ) : Type 0 where
   pub low : k ≤ c
+  pub same : length ins ≡ length ins0
   pub marked : Marks marks (literals_in (take k ins))
   pub rest : input_lines M c [] (drop from s) ≡ input_lines M (c - k) (literals_in (take k ins)) (drop at s)
 
-module _ {s : List ℕ} {from M c : ℕ} {ins : List Lit} {marks : List Bool} {at k : ℕ} (i : InputsInv s from M c ins marks at k) (r : c ≤ length ins) where
+module _ {s : List ℕ} {from M c : ℕ} {ins0 ins : List Lit} {marks : List Bool} {at k : ℕ} (i : InputsInv s from M c ins0 ins marks at k) (r : c ≤ length ins) where
   -- the line after those read so far
   inputs_line : on_line (2 + length (literals_in (take k ins))) number (drop at s) ≡ on_line (2 + k) number (drop at s)
   inputs_line = rw (length_filled (λ (l : Lit). l.0) ins k (omega (arith, i.low, r)))
@@ -71,11 +72,12 @@ module _ {s : List ℕ} {from M c : ℕ} {ins : List Lit} {marks : List Bool} {a
       inputs_refused (inputs_used M c k (literals_in (take k ins)) (drop at s) h (inputs_line ∙ e) f ∙ rw (length_filled (λ (l : Lit). l.0) ins k (omega (arith, r))))
 
   pub inputs_next : {l : Lit} {p : ℕ} {marks' : List Bool} → k < c → on_line (2 + k) number (drop at s) ≡ got l.0 (drop p s) → fresh M (literals_in (take k ins)) l.0 ≡ true
-      → Marks marks' (literals_in (take k ins) ++ l.0 ∷ []) → InputsInv s from M c (set ins k l) marks' p (k + 1)
+      → Marks marks' (literals_in (take k ins) ++ l.0 ∷ []) → InputsInv s from M c ins0 (set ins k l) marks' p (k + 1)
   inputs_next {l} {p} h e f m =
       let t : literals_in (take (k + 1) (set ins k l)) ≡ literals_in (take k ins) ++ l.0 ∷ [] = filled_more (λ (x : Lit). x.0) ins k l (omega (arith, r)) in
       record {
         low = omega arith;
+        same = rw length-set i.same;
         marked = rw t m;
         rest = rw t (i.rest ∙ inputs_on M c k (literals_in (take k ins)) (drop at s) h (inputs_line ∙ e) f);
       }
@@ -105,22 +107,24 @@ module _ (n c k : ℕ) (ls t : List ℕ) where
     unfolding output_lines
     outputs_on e = rw (less c k h, e)
 
-pub record OutputsInv (s : List ℕ) (from n c : ℕ) (outs : List Lit) (at k : ℕ) : Type 0 where
+pub record OutputsInv (s : List ℕ) (from n c : ℕ) (outs0 outs : List Lit) (at k : ℕ) : Type 0 where
   pub low : k ≤ c
+  pub same : length outs ≡ length outs0
   pub rest : output_lines n c [] (drop from s) ≡ output_lines n (c - k) (literals_in (take k outs)) (drop at s)
 
-module _ {s : List ℕ} {from n c : ℕ} {outs : List Lit} {at k : ℕ} (i : OutputsInv s from n c outs at k) (r : c ≤ length outs) where
+module _ {s : List ℕ} {from n c : ℕ} {outs0 outs : List Lit} {at k : ℕ} (i : OutputsInv s from n c outs0 outs at k) (r : c ≤ length outs) where
   outputs_line : on_line (n + length (literals_in (take k outs))) number (drop at s) ≡ on_line (n + k) number (drop at s)
   outputs_line = rw (length_filled (λ (l : Lit). l.0) outs k (omega (arith, i.low, r)))
 
   pub outputs_stop : {w : Refusal} → k < c → on_line (n + k) number (drop at s) ≡ refused w → refused w ≡ output_lines n c [] (drop from s)
   outputs_stop h e = sym (i.rest ∙ outputs_bad n c k (literals_in (take k outs)) (drop at s) h (outputs_line ∙ e))
 
-  pub outputs_next : {l : Lit} {p : ℕ} → k < c → on_line (n + k) number (drop at s) ≡ got l.0 (drop p s) → OutputsInv s from n c (set outs k l) p (k + 1)
+  pub outputs_next : {l : Lit} {p : ℕ} → k < c → on_line (n + k) number (drop at s) ≡ got l.0 (drop p s) → OutputsInv s from n c outs0 (set outs k l) p (k + 1)
   outputs_next {l} {p} h e =
       let t : literals_in (take (k + 1) (set outs k l)) ≡ literals_in (take k outs) ++ l.0 ∷ [] = filled_more (λ (x : Lit). x.0) outs k l (omega (arith, r)) in
       record {
         low = omega arith;
+        same = rw length-set i.same;
         rest = rw t (i.rest ∙ outputs_on n c k (literals_in (take k outs)) (drop at s) h (outputs_line ∙ e));
       }
 

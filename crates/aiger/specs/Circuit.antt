@@ -8,7 +8,7 @@ use Rattle.aiger.specs.declared.net.Net.{Net}
 use Rattle.aiger.specs.declared.refusal.Refusal.{Refusal}
 
 abbrev pub circuit_of : Net → net.Net
-circuit_of n = net_in n.sizes n.input_places n.output_places n.gate_places
+circuit_of n = net_in n.sizes n.input_places.now n.output_places.now n.gate_places.now
 
 -- a net with the position behind its last gate line, or the refusal
 abbrev pub net_of : List ℕ → Result (Net × ℕ) Refusal → Got net.Net

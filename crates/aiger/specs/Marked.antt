@@ -29,6 +29,11 @@ abbrev pub gate_read : List ℕ → Result (Gate × ℕ) Refusal → Got form.Ga
 gate_read s (Ok r) = got (lits_of r.0) (drop r.1 s)
 gate_read s (Err w) = refused w
 
+-- the places of an array that was lent, beside what was answered of them
+abbrev pub placed : {A : Type 0} → List A → Result ℕ Refusal → Result (List A × ℕ) Refusal
+placed xs (Ok p) = Ok (xs, p)
+placed xs (Err w) = Err w
+
 -- c lines that were read into the first c places of an array, with the next position
 abbrev pub literals_read : List ℕ → ℕ → Result (List Lit × ℕ) Refusal → Got (List ℕ)
 literals_read s c (Ok r) = got (literals_in (take c r.0)) (drop r.1 s)

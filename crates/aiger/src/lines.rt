@@ -19,6 +19,7 @@ pub struct Gate {
 }
 
 // Whether a newline stands at the position or behind it.
+#[inline(always)]
 #[tactic(auto, using(crate::proofs::AtPosition::newline_end, crate::proofs::AtPosition::any_from))]
 pub fn newline_left(s: &[u8], from: usize) -> bool
     ensures { result ≡ form.newline_left (drop from s.now) }

@@ -9,7 +9,7 @@ use lib.ListN.{length, get_or, take, length-map}
 use lib.Seq.{take_all}
 use borrow.Author.Tests.{ltb-true, eqb-true, eqb-false, leb-true}
 use Rattle.std.proofs.lemmas.List.{get_or-map}
-use Rattle.std.specs.Prelude.{Option, Some, nat_lt}
+use Rattle.std.specs.Prelude.{Option, Some, Result, Ok, Err, nat_lt, if◌then◌else◌}
 use Rattle.std.specs.Option.{is_some, IfSome}
 use Rattle.std.proofs.Common.{Bor}
 use Rattle.steps.specs.One.{one}
@@ -20,30 +20,38 @@ use Rattle.steps.proofs.Bools.{both_true}
 use Rattle.steps.proofs.Table.{rows_of_next, rows_of_none}
 use Rattle.table.specs.declared.Row.{Row}
 use Rattle.table.specs.declared.Refusal.{Refusal}
+use Rattle.table.specs.declared.Refusal.TheVariants.{OutOfRange}
 use Rattle.table.specs.Made.{Made, At, Full}
 use Rattle.table.specs.Lent.{room, Lent}
 use Rattle.table.specs.Memory.{Live}
 use Rattle.table.proofs.Takes.{taken_rows, taken_lent, taken_lends}
 use Rattle.checks.specs.Checks.{Refuses}
 use Rattle.checks.proofs.Never.{never_refused, empty_sound}
+use Rattle.checks.proofs.Results.{refusal_of_number}
 use Rattle.reduction.specs.Inner.{Took}
 use Rattle.aiger.specs.Form.{Gate}
 use Rattle.aiger.specs.Answers.{literals_in}
 use Rattle.aiger.specs.Circuit.{circuit_of}
-use Rattle.aiger.specs.Net.{Net as Circuit}
+use Rattle.aiger.specs.Net.{Net as Circuit, Got, got, refused, circuit}
 use Rattle.aiger.specs.declared.lines.Lit.{Lit}
 use Rattle.aiger.specs.declared.net.Net.{Net}
+use Rattle.aiger.specs.declared.refusal.Refusal.{Refusal as Text-refusal}
+use Rattle.aiger.specs.declared.refusal.Refusal.TheVariants.{TooLong}
 use Rattle.aiger.proofs.Accepted.{inputs_at, gates_ascending}
-use Rattle.verdicts.specs.Calls.{left, lengths_fine, end_with, judge, circuit_call}
+use Rattle.verdicts.specs.Calls.{Answer, verdict_0, verdict_1, verdict_2, refusal, Left, left, lengths_fine, end_with, judge, circuit_call}
 use Rattle.verdicts.specs.Systems.{output_steps}
 use Rattle.verdicts.specs.Verdicts.{verdict_of}
 use Rattle.verdicts.proofs.Building.{reduced}
 use Rattle.verdicts.proofs.Endings.{ends_at_0, ends_at_1, ends_full}
 use Rattle.verdicts.proofs.Inputs.{output_low}
 use Rattle.verdicts.proofs.Outcomes.{judge_passes}
-use Rattle.endings.specs.Answers.{Judged, answer_of_judged, Answered}
+use Rattle.endings.specs.declared.Verdict.{Verdict}
+use Rattle.endings.specs.declared.Verdict.TheVariants.{Never, Can, RoomOut}
+use Rattle.endings.specs.declared.Refusal.{Refusal as Circuit-refusal}
+use Rattle.endings.specs.declared.Refusal.TheVariants.{Table as OfTable, Text, NoOutput, PatternLength}
+use Rattle.endings.specs.Answers.{Judged, answer_of_judged, judged_of, Answered}
 use Rattle.endings.specs.Inner.{bytes_at, end_at, end_of, PatternIf, EndAsked}
-use Rattle.circuit.specs.Inner.{OutputAsked}
+use Rattle.circuit.specs.Inner.{OutputAsked, Counted, IfText}
 
 -- the lengths
 
@@ -149,3 +157,46 @@ module _ (x : Net) (s : Slices) (o l I : ℕ) (a : Judgeable x s o l I) where
 pub circuit_unique : (text : List ℕ) (s : Slices) (o : ℕ) (p : List ℕ) (r r' : Judged) (t t' : Slices) (q q' : List ℕ) → Answered (circuit_call text s o p) r t q → Answered (circuit_call text s o p) r' t' q'
     → left (answer_of_judged r) t q ≡ left (answer_of_judged r') t' q'
 circuit_unique text s o p r r' t t' q q' a b = sym a.is ∙ b.is
+
+-- no two results stand for one answer, but that the refusal of a text has its kind and line: each comes back from the answer and what the text gives
+
+-- the refusal that a text gives; where it gives a net, any
+abbrev refusal_given : Got Circuit → Text-refusal
+refusal_given (got _ _) = TooLong
+refusal_given (refused w) = w
+
+module _ (given : Got Circuit) where
+  abbrev refusal_of : ℕ → Circuit-refusal
+  refusal_of n = if leb n 8 then OfTable (refusal_of_number n) else if leb n 13 then Text (refusal_given given) else if eqb n 14 then NoOutput else PatternLength
+
+  abbrev result_of : Answer → Result Verdict Circuit-refusal
+  result_of (verdict_0 n) = Ok (Never n)
+  result_of (verdict_1 n) = Ok (Can n)
+  result_of verdict_2 = Ok RoomOut
+  result_of (refusal why) = Err (refusal_of why)
+
+  result_back : (r : Result Verdict Circuit-refusal) → IfText (λ w. given ≡ refused w) r → result_of (answer_of_judged (judged_of r)) ≡ r
+  result_back (Ok (Never n)) h = refl
+  result_back (Ok _) h = refl
+  result_back (Err (OfTable OutOfRange)) h = refl
+  result_back (Err (OfTable _)) h = refl
+  result_back (Err (Text TooLong)) h = ap {B = Result Verdict Circuit-refusal} (λ y. Err (Text (refusal_given y))) h
+  result_back (Err (Text _)) h = ap {B = Result Verdict Circuit-refusal} (λ y. Err (Text (refusal_given y))) h
+  result_back (Err _) h = refl
+
+  pub judged_same : (r r' : Result Verdict Circuit-refusal) → answer_of_judged (judged_of r) ≡ answer_of_judged (judged_of r') → IfText (λ w. given ≡ refused w) r → IfText (λ w. given ≡ refused w) r' → r ≡ r'
+  judged_same r r' e h h' = sym (result_back r h) ∙ ap result_of e ∙ result_back r' h'
+
+counted_same : (r : Result Verdict Circuit-refusal) (c n n' : ℕ) → Counted r c n → Counted r c n' → n ≡ n'
+counted_same (Ok v) c n n' h h' = sym h ∙ h'
+counted_same (Err why) c n n' h h' = h ∙ sym h'
+
+-- the uniqueness of the code's results: the verdict or the refusal, with a text's kind and line, the count of rows in use, the three slices and the pattern
+pub circuit_result_unique : (text : List ℕ) (s : Slices) (c o : ℕ) (p : List ℕ) (r r' : Result Verdict Circuit-refusal) (n n' : ℕ) (t t' : Slices) (q q' : List ℕ)
+    → Answered (circuit_call text s o p) (judged_of r) t q → Counted r c n → IfText (λ w. circuit text ≡ refused w) r
+    → Answered (circuit_call text s o p) (judged_of r') t' q' → Counted r' c n' → IfText (λ w. circuit text ≡ refused w) r'
+    → (r ≡ r') × (n ≡ n') × (t ≡ t') × (q ≡ q')
+circuit_result_unique text s c o p r r' n n' t t' q q' a k h a' k' h' =
+    let e : left (answer_of_judged (judged_of r)) t q ≡ left (answer_of_judged (judged_of r')) t' q' = circuit_unique text s o p (judged_of r) (judged_of r') t t' q q' a a' in
+    let same : r ≡ r' = judged_same (circuit text) r r' (ap (λ (l : Left). l.answer) e) h h' in
+    (same, counted_same r' c n n' (subst (λ (y : Result Verdict Circuit-refusal). Counted y c n) same k) k', ap (λ (l : Left). l.table) e, ap (λ (l : Left). l.pattern) e)

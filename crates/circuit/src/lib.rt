@@ -12,7 +12,7 @@ ghost use Rattle.endings.specs.Answers.{Answered, judged_of};
 ghost use Rattle.circuit.specs.Inner.{Counted, IfText};
 
 use crate::output::output;
-use aiger::net::Net;
+use aiger::net::{Net, Places};
 use checks::check::check_table;
 use endings::{Refusal, Verdict, ended};
 use nets::read_net;
@@ -28,7 +28,7 @@ fn lengths_fine(t: &Table<'_>) -> bool
 }
 
 // The verdict for output o of a net, from an empty table: any empty table is sound, and the check readies the working slice.
-fn judge(net: &Net, t: &mut Table<'_>, o: usize, pattern: &mut [u8]) -> Result<Verdict, Refusal>
+fn judge(net: &Net<'_>, t: &mut Table<'_>, o: usize, pattern: &mut [u8]) -> Result<Verdict, Refusal>
     requires { lengths_fine (slices_of t.old) ≡ true }
     ensures answered { Answered (judge (circuit_of net.now) (slices_of t.old) o pattern.old) (judged_of result) (slices_of t.new) pattern.new }
     ensures count { Counted result t.old.count t.new.count }
@@ -65,7 +65,8 @@ fn judge_text(
     if !lengths_fine(t) {
         return Err(Refusal::Table(table::Refusal::OutOfRange));
     }
-    let (net, _) = read_net(text)?;
+    let mut places = Places::new();
+    let (net, _) = read_net(text, &mut places)?;
     judge(&net, t, o, pattern)
 }
 

@@ -1,4 +1,5 @@
 // For the crate above: the written steps of a literal and of a gate, and the system of all gates.
+ghost use Rattle.std.specs.Prelude.{◌≡◌, OnErr};
 ghost use Rattle.table.specs.Tables.{KeptIn};
 ghost use Rattle.aiger.specs.Answers.{lits_of, gates_in};
 ghost use Rattle.verdicts.specs.Systems.{literal_steps, gate_steps, build};
@@ -12,7 +13,8 @@ use table::{NoRoom, Row, Table, Var};
 // The literal l: 0 and 1 are themselves, the others are the rows (n - v, 1, 0) and (n - v, 1, 1) of their variable v.
 pub fn literal(t: &mut Table<'_>, n: u16, l: Lit) -> Result<Row, NoRoom>
     requires { LiteralIn n t.old l.0 }
-    ensures { KeptIn n (literal_steps n l.0) result t.old t.new }
+    ensures steps { KeptIn n (literal_steps n l.0) result t.old t.new }
+    ensures count { OnErr result (t.new.count ≡ t.old.count) }
 {
     if l.0 < 2 {
         return Ok(Row(l.0));

@@ -5,9 +5,7 @@ use Rattle.steps.specs.Rows.{Rows, row, root}
 use Rattle.steps.specs.Sound.{Sound}
 use Rattle.steps.specs.Table.{Slices, rows_of}
 use Rattle.table.specs.Lent.{room, Lent}
-use Rattle.table.specs.declared.Table.{Table}
 use Rattle.table.specs.Memory.{reach, Live}
-use Rattle.table.specs.Views.{slices_of, SameLoans}
 
 -- "Root of p above F's in index: normal form of p by then(F)": G is what is left of the system F once the leads below v are skipped
 pub data Skips (N : ℕ) (R : Rows) (v : ℕ) : ℕ → ℕ → Type 0 where
@@ -50,14 +48,3 @@ pub record Reducing (N c : ℕ) (s : Slices) (work : List ℕ) (f : ℕ) : Type 
   pub live : Live N c s work
   pub system : System c f
   pub table : Tabled N c s work f
-
--- and the same of a lent table
-abbrev pub ReducingIn : ℕ → Table → ℕ → Type 0
-ReducingIn N t f = Reducing N t.count (slices_of t) t.work.now f
-
--- the table of systems was written, and nothing else of the lent table
-pub record FilledIn (N : ℕ) (t t' : Table) (f : ℕ) : Type 0 where
-  pub same : SameLoans t t'
-  pub slices : slices_of t' ≡ slices_of t
-  pub count : t'.count ≡ t.count
-  pub filled : Filled N t.count (slices_of t) t.work.now t'.work.now f

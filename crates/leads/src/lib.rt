@@ -3,15 +3,14 @@
 #![tactic(auto)]
 
 ghost use Rattle.std.specs.Prelude.{◌<◌};
-ghost use Rattle.steps.specs.Table.{rows_of};
 ghost use Rattle.table.specs.Lent.{Numbered};
-ghost use Rattle.table.specs.Tables.{LiveIn};
-ghost use Rattle.table.specs.Views.{viewed, shown, slices_of};
-ghost use Rattle.leads.specs.Inner.{Skips, Past, System, Walking, ReducingIn, FilledIn};
+ghost use Rattle.table.specs.Memory.{Live};
+ghost use Rattle.table.specs.Views.{viewed, shown};
+ghost use Rattle.leads.specs.Inner.{Skips, Past, System, Walking, Reducing, Filled};
 
 use table::memory::words_used;
 use table::rows::Rows;
-use table::{Row, Table, Var};
+use table::{Row, Var};
 
 // What is left of the system f, lead by lead.
 fn walk(rows: &Rows<'_>, n: u16, f: Row, v: Var) -> Row
@@ -29,18 +28,18 @@ fn walk(rows: &Rows<'_>, n: u16, f: Row, v: Var) -> Row
 }
 
 // What is left of the system f once the leads below v are skipped.
-pub fn lead_at(t: &Table<'_>, n: u16, f: Row, v: Var) -> Row
-    requires { ReducingIn n t.now f.0 × (v.0 < n) }
-    ensures { Skips n (rows_of (slices_of t.now) t.now.count) v.0 f.0 result.0 }
+pub fn lead_at(rows: &Rows<'_>, work: &[u64], n: u16, f: Row, v: Var) -> Row
+    requires { (Reducing n rows.now.count (viewed rows.now) work.now f.0) × (v.0 < n) }
+    ensures { Skips n (shown rows.now) v.0 f.0 result.0 }
 {
-    if v <= t.rows().row(n, f).v {
+    if v <= rows.row(n, f).v {
         return f;
     }
-    let from = words_used(t.vs.len(), t.work.len());
-    if t.work.len() - from < n as usize {
-        return walk(&t.rows(), n, f, v);
+    let from = words_used(rows.vs.len(), work.len());
+    if work.len() - from < n as usize {
+        return walk(rows, n, f, v);
     }
-    Row(t.work[from + v.0 as usize] as u16)
+    Row(work[from + v.0 as usize] as u16)
 }
 
 // What is left of g, whose leads are at v or behind it, once a lead at v is skipped, too.
@@ -56,17 +55,17 @@ fn past(rows: &Rows<'_>, n: u16, g: Row, v: Var) -> Row
 }
 
 // Writes the table of the system f, where there is room for it.
-pub fn fill(t: &mut Table<'_>, n: u16, f: Row)
-    requires { LiveIn n t.old × System t.old.count f.0 }
-    ensures { FilledIn n t.old t.new f.0 }
+pub fn fill(rows: &Rows<'_>, work: &mut [u64], n: u16, f: Row)
+    requires { (Live n rows.now.count (viewed rows.now) work.old) × (System rows.now.count f.0) }
+    ensures { Filled n rows.now.count (viewed rows.now) work.old work.new f.0 }
 {
-    let from = words_used(t.vs.len(), t.work.len());
-    if t.work.len() - from < n as usize {
+    let from = words_used(rows.vs.len(), work.len());
+    if work.len() - from < n as usize {
         return;
     }
     let mut g = f;
     for v in 0..n {
-        t.work[from + v as usize] = g.0 as u64;
-        g = past(&t.rows(), n, g, Var(v));
+        work[from + v as usize] = g.0 as u64;
+        g = past(rows, n, g, Var(v));
     }
 }

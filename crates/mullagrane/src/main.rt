@@ -1,23 +1,45 @@
 // The program: reads an AIGER text from standard input and prints a verdict for every output, in a table of 4,096 rows. The system is built once.
 #![tactic(auto)]
 
-ghost use Rattle.std.specs.Prelude.{length};
+ghost use Rattle.std.specs.Prelude.{◌<◌, length};
 ghost use Rattle.table.specs.Made.{made_of};
 ghost use Rattle.table.specs.Views.{slices_of};
+ghost use Rattle.aiger.specs.Circuit.{circuit_of};
+ghost use Rattle.printing.specs.Inner.{Prints};
 ghost use Rattle.mullagrane.specs.Inner.{Ready};
 
-use aiger::net::Net;
+use aiger::net::{Net, Places};
 use nets::read_net;
 use outputs::system;
-use printing::{print, print_refusal};
+use printing::{Line, print, print_refusal};
 use reading::read_full;
 use std::io;
+use std::io::Write;
 use table::{NoRoom, Row, Table};
+
+// The line of output o of this net.
+fn line_of(
+    net: &Net<'_>,
+    t: &mut Table<'_>,
+    made: Result<Row, NoRoom>,
+    o: usize,
+    pattern: &mut [u8],
+) -> Line
+    requires ready { Ready (made_of made t.old.count) (slices_of t.old) net.now (length pattern.old) }
+    requires there { o < net.now.sizes.outputs }
+    ensures prints { Prints (circuit_of net.now) (slices_of t.old) o pattern.old result.bytes }
+    ensures ready { Ready (made_of made t.new.count) (slices_of t.new) net.now (length pattern.new) }
+{
+    match made {
+        Ok(system) => print(t, Ok((net, system)), o, pattern),
+        Err(NoRoom) => print(t, Err(NoRoom), o, pattern),
+    }
+}
 
 // Each output from the system's rows, which stay, or from the want of room for it. A standard output that fails ends it.
 fn print_all(
     rt: &impl Print,
-    net: &Net,
+    net: &Net<'_>,
     t: &mut Table<'_>,
     made: Result<Row, NoRoom>,
     pattern: &mut [u8],
@@ -25,14 +47,14 @@ fn print_all(
     requires { Ready (made_of made t.old.count) (slices_of t.old) net.now (length pattern.old) }
 {
     for o in 0..net.sizes.outputs as usize {
-        let line = print(net, t, made, o, pattern);
-        rt.print(line)?;
+        let line = line_of(net, t, made, o, pattern);
+        io::writer(rt).write_all(line.as_bytes())?;
     }
     Ok(())
 }
 
 // The verdicts of an accepted net.
-fn judge_net(rt: &impl Print, net: &Net) -> io::Result<()> {
+fn judge_net(rt: &impl Print, net: &Net<'_>) -> io::Result<()> {
     // fixed memory: the project uses no heap
     let mut t = Table {
         vs: &mut [0; 4096],
@@ -56,8 +78,9 @@ fn judge_net(rt: &impl Print, net: &Net) -> io::Result<()> {
 fn main(rt: HostRuntime) -> io::Result<()> {
     let mut text = [0u8; 32769];
     let length = read_full(&mut rt.reader(), &mut text)?;
-    match read_net(&text[..length]) {
+    let mut places = Places::new();
+    match read_net(&text[..length], &mut places) {
         Ok((net, _)) => judge_net(&rt, &net),
-        Err(why) => rt.print(print_refusal(why)),
+        Err(why) => io::writer(&rt).write_all(print_refusal(why).as_bytes()),
     }
 }

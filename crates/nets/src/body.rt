@@ -1,16 +1,16 @@
-// The lines after the header. A mark is kept for each variable that is defined. Each loop counts k, which is the place in the array and tells the line. The arrays hold any net: the project
-// uses no heap. Text and position stand apart as in aiger's numbers.rt.
+// The lines after the header, read into lent places that hold any net. A mark is kept for each variable that is defined. Each loop counts k, which is the place in the array and tells the line.
+// Text and position stand apart as in aiger's numbers.rt.
 ghost use Rattle.std.specs.Prelude.{◌≡◌, ◌≤◌, true, List, [], drop, ℕ, length};
 ghost use Rattle.aiger.specs.Form as form;
 ghost use Rattle.aiger.specs.Net as net;
 ghost use Rattle.aiger.specs.Answers.{lits_of, sizes_of, literals_in};
 ghost use Rattle.aiger.specs.Circuit.{net_of};
-ghost use Rattle.aiger.specs.Marked.{Marks, number_read, gate_read, literals_read, InputsRead, GatesRead, checked_of};
+ghost use Rattle.aiger.specs.Marked.{Marks, number_read, gate_read, placed, literals_read, InputsRead, GatesRead, checked_of};
 
 use crate::defined::Defined;
 use aiger::header::Sizes;
 use aiger::lines::{Gate, Lit, line_of_gate, line_of_number};
-use aiger::net::Net;
+use aiger::net::{Net, Places};
 use aiger::refusal::Refusal;
 
 // Whether a gate may follow the one of left `last`.
@@ -49,14 +49,14 @@ fn read_inputs(
     s: &[u8],
     from: usize,
     count: usize,
+    inputs: &mut [Lit; 1024],
     defined: &mut Defined,
-) -> Result<([Lit; 1024], usize), Refusal>
+) -> Result<usize, Refusal>
     requires few { count ≤ 1024 }
     requires none { Marks defined.old.marks [] }
     ensures same { defined.new.highest ≡ defined.old.highest }
-    ensures read { InputsRead s.now from defined.old.highest count defined.new.marks result }
+    ensures read { InputsRead s.now from defined.old.highest count defined.new.marks (placed inputs.new result) }
 {
-    let mut inputs = [Lit(0); 1024];
     let mut at = from;
     for k in 0..count {
         let (number, next) = number_line(s, at, 2 + k)?;
@@ -68,7 +68,7 @@ fn read_inputs(
         defined.define(l);
         at = next;
     }
-    Ok((inputs, at))
+    Ok(at)
 }
 
 // The output lines, from line n on, into the first `count` places.
@@ -78,19 +78,19 @@ fn read_outputs(
     from: usize,
     n: usize,
     count: usize,
-) -> Result<([Lit; 1024], usize), Refusal>
+    outputs: &mut [Lit; 1024],
+) -> Result<usize, Refusal>
     requires line { n ≤ 4096 }
     requires few { count ≤ 1024 }
-    ensures { literals_read s.now count result ≡ net.output_lines n count [] (drop from s.now) }
+    ensures { literals_read s.now count (placed outputs.new result) ≡ net.output_lines n count [] (drop from s.now) }
 {
-    let mut outputs = [Lit(0); 1024];
     let mut at = from;
     for k in 0..count {
         let (number, next) = number_line(s, at, n + k)?;
         outputs[k] = Lit(number);
         at = next;
     }
-    Ok((outputs, at))
+    Ok(at)
 }
 
 // The gate lines, from line n on, into the first `count` places.
@@ -100,20 +100,15 @@ fn read_gates(
     from: usize,
     n: usize,
     count: usize,
+    gates: &mut [Gate; 1024],
     defined: &mut Defined,
-) -> Result<([Gate; 1024], usize), Refusal>
+) -> Result<usize, Refusal>
     requires line { n ≤ 4096 }
     requires few { count ≤ 1024 }
     ensures same { defined.new.highest ≡ defined.old.highest }
     ensures read { (ls : List ℕ) → Marks defined.old.marks ls →
-        GatesRead s.now from defined.old.highest n count ls defined.new.marks result }
+        GatesRead s.now from defined.old.highest n count ls defined.new.marks (placed gates.new result) }
 {
-    let none = Gate {
-        left: Lit(0),
-        right0: Lit(0),
-        right1: Lit(0),
-    };
-    let mut gates = [none; 1024];
     let mut at = from;
     let mut last = Lit(0);
     for k in 0..count {
@@ -134,7 +129,7 @@ fn read_gates(
         last = g.left;
         at = next;
     }
-    Ok((gates, at))
+    Ok(at)
 }
 
 // After the last gate: the outputs, from line n on, are in range and defined.
@@ -154,7 +149,12 @@ fn check_outputs(defined: &Defined, n: usize, outputs: &[Lit]) -> Result<(), Ref
 
 // The lines after the header, up to the last gate.
 #[tactic(auto, unfolding(aiger::specs::Net::body))]
-pub fn read_body(s: &[u8], from: usize, sizes: Sizes) -> Result<(Net, usize), Refusal>
+pub fn read_body<'a>(
+    s: &[u8],
+    from: usize,
+    sizes: Sizes,
+    places: &'a mut Places,
+) -> Result<(Net<'a>, usize), Refusal>
     requires { net.limits (sizes_of sizes) ≡ true }
     ensures { net_of s.now result ≡ net.body (sizes_of sizes) (drop from s.now) }
 {
@@ -162,15 +162,15 @@ pub fn read_body(s: &[u8], from: usize, sizes: Sizes) -> Result<(Net, usize), Re
     let o = sizes.outputs as usize;
     let a = sizes.gates as usize;
     let mut defined = Defined::new(sizes.vars);
-    let (inputs, p) = read_inputs(s, from, i, &mut defined)?;
-    let (outputs, q) = read_outputs(s, p, i + 2, o)?;
-    let (gates, end) = read_gates(s, q, i + o + 2, a, &mut defined)?;
-    check_outputs(&defined, i + 2, &outputs[..o])?;
+    let p = read_inputs(s, from, i, &mut places.inputs, &mut defined)?;
+    let q = read_outputs(s, p, i + 2, o, &mut places.outputs)?;
+    let end = read_gates(s, q, i + o + 2, a, &mut places.gates, &mut defined)?;
+    check_outputs(&defined, i + 2, &places.outputs[..o])?;
     let net = Net {
         sizes,
-        input_places: inputs,
-        output_places: outputs,
-        gate_places: gates,
+        input_places: &places.inputs,
+        output_places: &places.outputs,
+        gate_places: &places.gates,
     };
     Ok((net, end))
 }

@@ -5,6 +5,7 @@ use mathlib.Core.Bool.{true, ◌&&◌, not}
 use native.Mathlib.Omega.{arith}
 use lib.Dec.{ltb, eqb}
 use borrow.Author.Tests.{lt-ltb, ne_eqb, eq-eqb, ltb-true}
+use Rattle.std.specs.Prelude.{Result, OnErr}
 use Rattle.steps.specs.Rows.{next, root}
 use Rattle.steps.specs.Steps.{normal}
 use Rattle.steps.specs.System.{InOrder, equation}
@@ -15,10 +16,11 @@ use Rattle.steps.proofs.Table.{rows_of_next}
 use Rattle.steps.proofs.Theorems.{normal_agrees, normal_no_lead}
 use Rattle.steps.proofs.Sound.{sound_true}
 use Rattle.table.specs.declared.Row.{Row as Number}
-use Rattle.table.specs.Answers.{Answer, Made, Refused}
+use Rattle.table.specs.declared.Refusal.{Refusal}
+use Rattle.table.specs.Answers.{Answer, Made, Refused, answered_of}
 use Rattle.table.specs.Calls.{unless◌then◌else◌, in_use, Left, left, refuse, take_steps, IfMade, Does}
 use Rattle.table.proofs.Laid.{steps_made}
-use Rattle.checks.proofs.CallEnds.{unless_made, checked_made, does_unique}
+use Rattle.checks.proofs.CallEnds.{unless_made, checked_made, does_unique, does_result_unique}
 use Rattle.normal.specs.Calls.{system_checked, in_order, SystemInUse, equation_checked, equation_call, Adds, normal_checked, normal_call, Reduced}
 
 -- neither 3 nor 4
@@ -81,3 +83,14 @@ equation_unique N c s i F t = does_unique (Adds c s i F t) (equation_call N c s 
 
 pub normal_form_unique : (N c : ℕ) (s : Slices) (p F : ℕ) (r r' : Answer) (z z' : Slices) → Does (Reduced c s p F) (normal_call N c s p F) r z → Does (Reduced c s p F) (normal_call N c s p F) r' z' → left r z ≡ left r' z'
 normal_form_unique N c s p F = does_unique (Reduced c s p F) (normal_call N c s p F)
+
+-- the same of the code's results
+pub equation_result_unique : (N c : ℕ) (s : Slices) (i F t : ℕ) (r r' : Result Number Refusal) (n n' : ℕ) (z z' : Slices)
+    → Does (Adds c s i F t) (equation_call N c s i F t) (answered_of r n) z → OnErr r (n ≡ c) → Does (Adds c s i F t) (equation_call N c s i F t) (answered_of r' n') z' → OnErr r' (n' ≡ c)
+    → (r ≡ r') × (n ≡ n') × (z ≡ z')
+equation_result_unique N c s i F t = does_result_unique (Adds c s i F t) (equation_call N c s i F t) c
+
+pub normal_form_result_unique : (N c : ℕ) (s : Slices) (p F : ℕ) (r r' : Result Number Refusal) (n n' : ℕ) (z z' : Slices)
+    → Does (Reduced c s p F) (normal_call N c s p F) (answered_of r n) z → OnErr r (n ≡ c) → Does (Reduced c s p F) (normal_call N c s p F) (answered_of r' n') z' → OnErr r' (n' ≡ c)
+    → (r ≡ r') × (n ≡ n') × (z ≡ z')
+normal_form_result_unique N c s p F = does_result_unique (Reduced c s p F) (normal_call N c s p F) c

@@ -21,7 +21,7 @@ use reduction::reduce;
 use table::{NoRoom, Row, Table};
 
 // The system of all gates, from row 0 on.
-pub fn system(net: &Net, t: &mut Table<'_>) -> Result<Row, NoRoom>
+pub fn system(net: &Net<'_>, t: &mut Table<'_>) -> Result<Row, NoRoom>
     requires { Lent 0 (slices_of t.old) }
     ensures builds { Builds (made_of result t.new.count) (slices_of t.old) (slices_of t.new) net.now }
     ensures same { SameLoans t.old t.new }
@@ -64,7 +64,7 @@ fn judge_from(
 }
 
 // The verdict for output o, from the system's rows: the check enters them anew, so that nothing is remembered of rows behind them, and they are again the rows in use at the end.
-pub fn judge(net: &Net, t: &mut Table<'_>, system: Row, o: usize, pattern: &mut [u8]) -> Verdict
+pub fn judge(net: &Net<'_>, t: &mut Table<'_>, system: Row, o: usize, pattern: &mut [u8]) -> Verdict
     requires { OutputOf (slices_of t.old) net.now t.old.count system.0 o (length pattern.old) }
     ensures judged { JudgedAs (circuit_of net.now) o (judged result) t.old.count
         (slices_of t.old) (slices_of t.new) pattern.old pattern.new }

@@ -6,6 +6,7 @@ use mathlib.Core.List.{List}
 use native.Mathlib.Omega.{arith}
 use borrow.Author.Tests.{ltb-true}
 use Rattle.std.specs.Bool.{xor}
+use Rattle.std.specs.Prelude.{Result, OnErr}
 use Rattle.steps.specs.Rows.{Assignment, value, next}
 use Rattle.steps.specs.Sound.{Sound}
 use Rattle.steps.specs.Steps.{Steps, sum, product}
@@ -14,13 +15,15 @@ use Rattle.steps.proofs.Bools.{both_true}
 use Rattle.steps.proofs.Sound.{sound_true}
 use Rattle.steps.proofs.Table.{rows_of_next}
 use Rattle.steps.proofs.Theorems.{value_of_sum, value_of_product}
-use Rattle.table.specs.Answers.{Answer, Made, Refused}
+use Rattle.table.specs.declared.Row.{Row}
+use Rattle.table.specs.declared.Refusal.{Refusal}
+use Rattle.table.specs.Answers.{Answer, Made, Refused, answered_of}
 use Rattle.table.specs.Calls.{in_use, left, take_steps, IfMade}
 use Rattle.table.specs.Memory.{Live}
 use Rattle.table.proofs.Laid.{steps_made}
 use Rattle.sums.specs.Inner.{Pair}
-use Rattle.checks.proofs.CallEnds.{unless_made, checked_made}
-use Rattle.pairs.specs.Calls.{pair_checked, pair_call, Means, Answered}
+use Rattle.checks.proofs.CallEnds.{unless_made, checked_made, does_result_unique}
+use Rattle.pairs.specs.Calls.{pair_checked, pair_call, sum_call, product_call, Means, Answered}
 
 -- a call whose steps give the value that op makes of the operands' values means it
 module _ (op : Bool → Bool → Bool) (N : ℕ) (m : Steps) (c : ℕ) (s : Slices) (f g : ℕ)
@@ -48,3 +51,14 @@ sum_answered N c s f g = pair_answered xor N (sum N f g) c s f g (λ d uf ug a. 
 
 pub product_answered : (N c : ℕ) (s : Slices) (f g : ℕ) {r : Answer} {s' : Slices} → pair_call N (product N f g) c s f g ≡ left r s' → Answered ◌&&◌ (pair_call N (product N f g) c s f g) r c s s' f g
 product_answered N c s f g = pair_answered ◌&&◌ N (product N f g) c s f g (λ d uf ug a. value_of_product N (rows_of s c) d f g uf ug a)
+
+-- "Uniqueness is proved: any two outcomes a contract allows coincide", of the code's results
+pub sum_result_unique : (N c : ℕ) (s : Slices) (f g : ℕ) (r r' : Result Row Refusal) (n n' : ℕ) (t t' : Slices)
+    → Answered xor (sum_call N c s f g) (answered_of r n) c s t f g → OnErr r (n ≡ c) → Answered xor (sum_call N c s f g) (answered_of r' n') c s t' f g → OnErr r' (n' ≡ c)
+    → (r ≡ r') × (n ≡ n') × (t ≡ t')
+sum_result_unique N c s f g = does_result_unique (Means xor c s f g) (sum_call N c s f g) c
+
+pub product_result_unique : (N c : ℕ) (s : Slices) (f g : ℕ) (r r' : Result Row Refusal) (n n' : ℕ) (t t' : Slices)
+    → Answered ◌&&◌ (product_call N c s f g) (answered_of r n) c s t f g → OnErr r (n ≡ c) → Answered ◌&&◌ (product_call N c s f g) (answered_of r' n') c s t' f g → OnErr r' (n' ≡ c)
+    → (r ≡ r') × (n ≡ n') × (t ≡ t')
+product_result_unique N c s f g = does_result_unique (Means ◌&&◌ c s f g) (product_call N c s f g) c

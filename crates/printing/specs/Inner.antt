@@ -7,8 +7,12 @@ use Rattle.aiger.specs.Answers.{number_of_refusal}
 use Rattle.aiger.specs.Net.{Net}
 use Rattle.aiger.specs.declared.refusal.Refusal.{Refusal}
 use Rattle.verdicts.specs.Calls.{end_with}
-use Rattle.verdicts.specs.Verdicts.{verdict_of}
+use Rattle.verdicts.specs.Verdicts.{verdict_of, room_out}
 use Rattle.printing.specs.Text.{printed, refused}
+
+-- no output of this circuit has room in a table of this size
+abbrev pub NoneFits : Net → Slices → Type 0
+NoneFits circuit s = (o : ℕ) → verdict_of circuit (room s) o ≡ room_out
 
 -- WHAT IS PRINTED IS THE CIRCUIT CALL'S: the line is the text of what the call leaves in a table of this size
 pub record Prints (circuit : Net) (s : Slices) (o : ℕ) (p line : List ℕ) : Type 0 where

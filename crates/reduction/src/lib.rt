@@ -33,8 +33,10 @@ fn normal_form(t: &mut Table<'_>, n: u16, p: Row, f: Row) -> Result<Row, NoRoom>
     if p.0 < 2 {
         return Ok(p);
     }
-    let v = t.rows().row(n, p).v;
-    let g = lead_at(t, n, f, v);
+    let lent: &Table<'_> = t;
+    let rows = lent.rows();
+    let v = rows.row(n, p).v;
+    let g = lead_at(&rows, lent.work, n, f, v);
     if g.0 == 1 {
         return Ok(p);
     }
@@ -106,6 +108,9 @@ pub fn reduce(t: &mut Table<'_>, n: u16, p: Row, f: Row) -> Result<Row, NoRoom>
     requires { AskedIn n t.old p.0 f.0 }
     ensures { TookIn n (normal n p.0 f.0) result t.old t.new }
 {
-    fill(t, n, f);
+    // the rows are lent, so the working slice, which is written, is taken out of the table meanwhile
+    let work = std::mem::take(&mut t.work);
+    fill(&t.rows(), work, n, f);
+    t.work = work;
     normal_form(t, n, p, f)
 }

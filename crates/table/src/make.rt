@@ -63,7 +63,7 @@ impl Table<'_> {
     {
         let i = self.count;
         if self.vs.len() <= i {
-            return Err(NoRoom);
+            return Err(NoRoom); // before anything is written
         }
         enter(self.work, b, i);
         self.append(x)

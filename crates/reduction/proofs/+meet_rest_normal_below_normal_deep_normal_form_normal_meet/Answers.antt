@@ -49,27 +49,27 @@ pub normal_form-returns-then-p-lt2 : goal.normal_form-returns-then-p-lt2
 normal_form-returns-then-p-lt2 t c = unchanged c.requires.by.live (form_const _ _ _ _ _ _ c.requires c.if-p-lt2.true)
 
 pub normal_form-lead_at-g-requires : goal.normal_form-lead_at-g-requires
-normal_form-lead_at-g-requires t c = (c.requires.by, form_below _ _ _ _ _ _ c.requires c.if-p-lt2.false _ _ _ (rw c.rows.ensures.shown at c.row.ensures))
+normal_form-lead_at-g-requires t c = rw (c.rows-rows.ensures.count, c.rows-rows.ensures.rows) (c.requires.by, form_below _ _ _ _ _ _ c.requires c.if-p-lt2.false _ _ _ (rw c.rows-rows.ensures.shown at c.row.ensures))
 
 pub normal_form-returns-then-g-eq1 : goal.normal_form-returns-then-g-eq1
-normal_form-returns-then-g-eq1 t c = unchanged c.requires.by.live (form_empty _ _ _ _ _ _ c.requires c.if-p-lt2.false _ _ _ (rw c.rows.ensures.shown at c.row.ensures) _ c.lead_at-g.ensures c.if-g-eq1.true)
+normal_form-returns-then-g-eq1 t c = unchanged c.requires.by.live (form_empty _ _ _ _ _ _ c.requires c.if-p-lt2.false _ _ _ (rw c.rows-rows.ensures.shown at c.row.ensures) _ (rw c.rows-rows.ensures.shown at c.lead_at-g.ensures) c.if-g-eq1.true)
 
 pub normal_form-returns-in-Some : goal.normal_form-returns-in-Some
-normal_form-returns-in-Some t c = unchanged c.requires.by.live (form_recalled _ _ _ _ _ _ c.requires c.if-p-lt2.false _ _ _ (rw c.rows.ensures.shown at c.row.ensures) _ c.lead_at-g.ensures _ (rw c.slot-slot.ensures.key c.key.ensures) _ c.slot-slot.ensures.place c.in-Some.is c.recall.ensures)
+normal_form-returns-in-Some t c = unchanged c.requires.by.live (form_recalled _ _ _ _ _ _ c.requires c.if-p-lt2.false _ _ _ (rw c.rows-rows.ensures.shown at c.row.ensures) _ (rw c.rows-rows.ensures.shown at c.lead_at-g.ensures) _ (rw c.slot-slot.ensures.key c.key.ensures) _ c.slot-slot.ensures.place c.in-Some.is c.recall.ensures)
 
 pub normal_form-normal_deep-requires : goal.normal_form-normal_deep-requires
-normal_form-normal_deep-requires t c = form_deep _ _ _ _ _ _ c.requires c.if-p-lt2.false _ _ _ (rw c.rows.ensures.shown at c.row.ensures) _ c.lead_at-g.ensures c.if-g-eq1.false _ c.decreases
+normal_form-normal_deep-requires t c = form_deep _ _ _ _ _ _ c.requires c.if-p-lt2.false _ _ _ (rw c.rows-rows.ensures.shown at c.row.ensures) _ (rw c.rows-rows.ensures.shown at c.lead_at-g.ensures) c.if-g-eq1.false _ c.decreases
 
 pub normal_form-returns-in_err-k : goal.normal_form-returns-in_err-k
-normal_form-returns-in_err-k t c = kept_error c.from_residual.ensures.0 c.in_err-k.ensures.same (form_full _ _ _ _ _ _ c.requires c.if-p-lt2.false _ _ _ (rw c.rows.ensures.shown at c.row.ensures) _ c.lead_at-g.ensures c.in_err-k.ensures.kept)
+normal_form-returns-in_err-k t c = kept_error c.from_residual.ensures.0 c.in_err-k.ensures.same (form_full _ _ _ _ _ _ c.requires c.if-p-lt2.false _ _ _ (rw c.rows-rows.ensures.shown at c.row.ensures) _ (rw c.rows-rows.ensures.shown at c.lead_at-g.ensures) c.in_err-k.ensures.kept)
 
 pub normal_form-remember-requires : goal.normal_form-remember-requires
-normal_form-remember-requires t c = form_key _ _ _ _ _ _ c.requires c.if-p-lt2.false _ _ _ (rw c.rows.ensures.shown at c.row.ensures) _ c.lead_at-g.ensures _ (rw c.slot-slot.ensures.key c.key.ensures)
+normal_form-remember-requires t c = form_key _ _ _ _ _ _ c.requires c.if-p-lt2.false _ _ _ (rw c.rows-rows.ensures.shown at c.row.ensures) _ (rw c.rows-rows.ensures.shown at c.lead_at-g.ensures) _ (rw c.slot-slot.ensures.key c.key.ensures)
 
 pub normal_form-returns : goal.normal_form-returns
 normal_form-returns t c = record {
   same = same_then c.in_ok-k.ensures.same (record { vs = refl; ts = refl; es = refl; work = refl });
-  kept = form_remembered _ _ _ _ _ _ c.requires c.if-p-lt2.false _ _ _ (rw c.rows.ensures.shown at c.row.ensures) _ c.lead_at-g.ensures _ (rw c.slot-slot.ensures.key c.key.ensures) _ c.slot-slot.ensures.place _ _ _ _ c.in_ok-k.ensures.kept _ c.remember.ensures;
+  kept = form_remembered _ _ _ _ _ _ c.requires c.if-p-lt2.false _ _ _ (rw c.rows-rows.ensures.shown at c.row.ensures) _ (rw c.rows-rows.ensures.shown at c.lead_at-g.ensures) _ (rw c.slot-slot.ensures.key c.key.ensures) _ c.slot-slot.ensures.place _ _ _ _ c.in_ok-k.ensures.kept _ c.remember.ensures;
 }
 
 pub normal_meet-returns-in_err-a : goal.normal_meet-returns-in_err-a

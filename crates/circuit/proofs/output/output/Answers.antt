@@ -6,13 +6,13 @@ pub returns-in_err-system : goal.returns-in_err-system
 returns-in_err-system c = took_error c.from_residual.ensures.0 c.in_err-system.ensures.same (system_full _ _ _ _ _ _ c.requires c.in_err-system.ensures.kept)
 
 pub returns-in_err-p : goal.returns-in_err-p
-returns-in_err-p c = took_error c.from_residual-in_err-p.ensures.0 (same_then c.in_ok-system.ensures.same c.in_err-p.ensures.same) (literal_full _ _ _ _ _ _ c.requires _ _ _ _ c.in_ok-system.ensures.kept c.in_err-p.ensures.kept)
+returns-in_err-p c = took_error c.from_residual-in_err-p.ensures.0 (same_then c.in_ok-system.ensures.same c.in_err-p.ensures.steps.same) (literal_full _ _ _ _ _ _ c.requires _ _ _ _ c.in_ok-system.ensures.kept c.in_err-p.ensures.steps.kept)
 
 pub reduce-requires : goal.reduce-requires
-reduce-requires c = reduce_asks _ _ _ _ _ _ c.requires _ _ _ _ c.in_ok-system.ensures.kept _ _ _ _ c.in_ok-p.ensures.kept
+reduce-requires c = reduce_asks _ _ _ _ _ _ c.requires _ _ _ _ c.in_ok-system.ensures.kept _ _ _ _ c.in_ok-p.ensures.steps.kept
 
 pub returns : goal.returns
 returns c = record {
-  same = same_then c.in_ok-system.ensures.same (same_then c.in_ok-p.ensures.same c.reduce.ensures.same);
-  took = output_took _ _ _ _ _ _ c.requires _ _ _ _ c.in_ok-system.ensures.kept _ _ _ _ c.in_ok-p.ensures.kept c.reduce.ensures.took;
+  same = same_then c.in_ok-system.ensures.same (same_then c.in_ok-p.ensures.steps.same c.reduce.ensures.same);
+  took = output_took _ _ _ _ _ _ c.requires _ _ _ _ c.in_ok-system.ensures.kept _ _ _ _ c.in_ok-p.ensures.steps.kept c.reduce.ensures.took;
 }

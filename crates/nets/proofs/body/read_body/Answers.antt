@@ -11,6 +11,6 @@ pub invariant_of-net : goal.invariant_of-net
 unfolding net.body
 invariant_of-net c =
     let h = sizes_of c.args.sizes in
-    let read = net_in c.args.sizes c.in_ok-inputs.inputs c.in_ok-outputs.outputs c.in_ok-gates.gates in
-    let e : ◌≡◌ {A = Got net.Net} (net.body h (drop c.args.from c.args.s.now)) (got read (drop c.in_ok-gates.end c.args.s.now)) = grind (arith, common_steps) in
+    let read = net_in c.args.sizes c.read_inputs.new.inputs c.read_outputs.new.outputs c.read_gates.new.gates in
+    let e : ◌≡◌ {A = Got net.Net} (net.body h (drop c.args.from c.args.s.now)) (got read (drop c.in_ok-end.end c.args.s.now)) = grind (arith, common_steps) in
     record { small = c.requires; accepted = body_ok h _ read _ (within h c.requires) e }

@@ -6,5 +6,5 @@ use Rattle.nets.proofs.body.read_gates.Given as goal
 abbrev pub invariant-loop-k : goal.invariant-loop-k
 invariant-loop-k l = record {
   same : l.defined.highest ≡ l.fn.defined.highest;
-  lines : GatesInv l.s l.from l.fn.defined.highest l.n l.count l.gates l.fn.defined.marks l.defined.marks l.at l.k l.last.0;
+  lines : GatesInv l.s l.from l.fn.defined.highest l.n l.count l.fn.gates l.gates l.fn.defined.marks l.defined.marks l.at l.k l.last.0;
 }

@@ -9,5 +9,5 @@ abbrev pub invariant-loop-k : goal.invariant-loop-k
 invariant-loop-k l = record {
   same : l.defined.highest ≡ l.fn.defined.highest;
   room : l.count ≤ length l.inputs;
-  lines : InputsInv l.s l.from l.fn.defined.highest l.count l.inputs l.defined.marks l.at l.k;
+  lines : InputsInv l.s l.from l.fn.defined.highest l.count l.fn.inputs l.inputs l.defined.marks l.at l.k;
 }

@@ -7,5 +7,5 @@ use Rattle.nets.proofs.body.read_outputs.Given as goal
 abbrev pub invariant-loop-k : goal.invariant-loop-k
 invariant-loop-k l = record {
   room : l.count ≤ length l.outputs;
-  lines : OutputsInv l.s l.from l.n l.count l.outputs l.at l.k;
+  lines : OutputsInv l.s l.from l.n l.count l.fn.outputs l.outputs l.at l.k;
 }
