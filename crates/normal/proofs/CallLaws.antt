@@ -23,6 +23,10 @@ use Rattle.table.proofs.Laid.{steps_made}
 use Rattle.checks.proofs.CallEnds.{unless_made, checked_made, does_unique, does_result_unique}
 use Rattle.normal.specs.Calls.{system_checked, in_order, SystemInUse, equation_checked, equation_call, Adds, normal_checked, normal_call, Reduced}
 
+-- what is known of a system is known of an equal number
+pub same_system : {c k F G : ℕ} → SystemInUse c k F → F ≡ G → SystemInUse c k G
+same_system u e = record { number = u.number; system = omega (arith, u.system, e); not_0 = λ z. u.not_0 (omega (arith, e, z)) }
+
 -- neither 3 nor 4
 module _ (c k F : ℕ) (s : Slices) (done : Left) where
   pub system_fine : SystemInUse c k F → done ≡ system_checked c s k F done
