@@ -7,7 +7,7 @@ ghost use Rattle.aiger.specs.Answers.{sizes_of, net_in};
 use crate::header::Sizes;
 use crate::lines::{Gate, Lit};
 
-// Places for any net, which a reader lends: a net that is read stays where it is, and no array is moved. The project uses no heap.
+// Places for any net, lent to what reads it: a net stays where it was read, and no array is moved. The project uses no heap.
 #[derive(Drop)]
 pub struct Places {
     pub inputs: [Lit; 1024],

@@ -48,6 +48,7 @@ fn print_all(
 {
     for o in 0..net.sizes.outputs as usize {
         let line = line_of(net, t, made, o, pattern);
+        // by one write, also where the line is longer than the buffer of `print`
         io::writer(rt).write_all(line.as_bytes())?;
     }
     Ok(())
