@@ -18,7 +18,7 @@ pub struct Gate {
     pub right1: Lit,
 }
 
-// Whether a newline stands at the position or behind it. Most lines are short, so a call costs as much as the look.
+// Whether a newline stands at the position or behind it. Inlined, since every line that is read asks it; that saves a few instructions a line.
 #[inline(always)]
 #[tactic(auto, using(crate::proofs::AtPosition::newline_end, crate::proofs::AtPosition::any_from))]
 pub fn newline_left(s: &[u8], from: usize) -> bool
